@@ -1,7 +1,5 @@
 -- A document or a fragment whose tokens lead the rules to a state is accepted, with the tree of that state.
-use Rattle.hlaws.proofs.Names.{◌≡◌, ℕ, ◌≤◌, List, ◌++◌, length, map, None, Ok, refl, sym, ap, ◌∙◌, subst, IsUtf8, ParseError, Placed, input_errors, Policy, read_len, refusal_of, Tok, Tokens, texts, Goes, State, Steps, reads_in, input_text, start_of, start_kind, ParseOptions, manner, policy, Parse, Parses, accepted, token_placed, decoded_text, in_order, order-permutes, order-sorted}
-use Rattle.std.proofs.Common.{take}
-use Rattle.hparse.specs.Parse.{ParseCase, first_state}
+use Rattle.hlaws.proofs.Names.{◌≡◌, ℕ, ◌≤◌, List, ◌++◌, length, map, None, Ok, refl, sym, ap, ◌∙◌, subst, IsUtf8, ParseError, Placed, input_errors, Policy, read_len, refusal_of, Tok, Tokens, texts, Goes, State, Steps, reads_in, input_text, start_of, start_kind, ParseOptions, manner, policy, Parse, Parses, accepted, token_placed, decoded_text, in_order, order-permutes, order-sorted, take, ParseCase, first_state}
 use Rattle.std.proofs.Math.Seq.{take-length}
 use Rattle.htext.specs.declared.BadBytes.{BadBytes}
 use Rattle.htext.specs.declared.BadBytes.TheVariants as bad

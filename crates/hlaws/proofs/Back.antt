@@ -1,22 +1,35 @@
 -- Plain trees come back, where what is written of them is read as their own tokens.
-use Rattle.hlaws.proofs.Names.{◌≡◌, ℕ, ◌+◌, Bool, true, false, List, [], ◌∷◌, ◌++◌, map, Some, refl, sym, ◌∙◌, ap, subst, arith, ◌⊎◌, inl, inr, ne_eqb, false≢true, Forest, none, tree, size, children_of, join-none, raw_kind, tag_named, tag_text, Tag, Tok, texts, Goes, Mode, InBody, InCaption, InCell, InTable, InTableBody, InRow, fragment_begins, rule_of, perform, PlacedToken, State, eof, Done, Rule, step_begun, ends, Step, goes, Steps, and, Content, Escaping, BuildsForest, fits_mode, fits_current, is_flow_mode, numbered_forest, AreTexts, AreRead, PlainTokens, ParseOptions, fragment, is_context, token_placed, token_taken, row, texts_in, Inside, are_content, are_content_if, in_context_of, is_form_element, plain_tokens}
-use Rattle.hlaws.specs.Building.{IsQuiet}
+use Rattle.hlaws.proofs.Names.{◌≡◌, ℕ, ◌+◌, Bool, true, false, List, [], ◌∷◌, ◌++◌, map, Some, refl, sym, ◌∙◌, ap, subst, arith, ◌⊎◌, inl, inr, ne_eqb, false≢true, Forest, none, tree, size, children_of, join-none, raw_kind, tag_named, tag_text, Tag, Tok, texts, Goes, Mode, InBody, InCaption, InCell, InTable, InTableBody, InRow, fragment_begins, rule_of, perform, PlacedToken, State, eof, Done, Rule, step_begun, ends, Step, goes, Steps, and, Content, Escaping, BuildsForest, fits_mode, fits_current, is_flow_mode, numbered_forest, AreTexts, AreRead, PlainTokens, ParseOptions, fragment, is_context, token_placed, token_taken, row, texts_in, Inside, are_content, are_content_if, in_context_of, is_form_element, plain_tokens, IsQuiet, stack, erased, node, context_mode, Keep, FitsForest, GivesForest, PlainComesBack, written, not, ◌&&◌, ◌||◌, nat_le, bytes_eq, codes, is_refused, tags, length, is_plain, is_name}
 use Rattle.names.specs.declared.tag.Tag.TheVariants as tag
-use Rattle.hadopt.specs.Site.{stack}
-use Rattle.hmodes.specs.Erased.{erased, node}
-use Rattle.hmodes.specs.Reset.{context_mode}
 use Rattle.hmodes.specs.declared.token_kind.TokenKind.TheVariants.{Eof}
-use Rattle.htext.specs.declared.Bom.TheVariants.{Keep}
 use Rattle.hmodes.specs.Step as step
 use Rattle.hserialize.specs.declared.content.Content.TheVariants as content
 use Rattle.hserialize.specs.declared.content.Texts.TheVariants as allowed
-use Rattle.hlaws.specs.ComesBack.{FitsForest, GivesForest, PlainComesBack}
-use Rattle.hserialize.specs.Written.{written}
 use Rattle.hlaws.proofs.TokenLists.{AreTokens, parted, first, after, ended}
 use Rattle.hlaws.proofs.Content.{parts_mode_is, rows_mode_is, cells_mode_is}
 use Rattle.hlaws.proofs.Accepted.{accepts}
-use Rattle.hlaws.proofs.Allowed.{context_taken}
 use Rattle.hlaws.proofs.PlainBuilds.{law}
+use Rattle.hlaws.proofs.NamesAsTexts.{named_back}
+
+-- CONTEXTS
+
+-- whether a parser takes a context of this name, which is known as t
+abbrev is_taken : Tag → List ℕ → Bool
+is_taken t name = nat_le (length name) 64 && is_name name && not (bytes_eq name (codes "colgroup") || is_refused t)
+
+-- whether a list is plain in it
+abbrev is_plain_in : Tag → Forest (List ℕ) → Bool
+is_plain_in t l = are_content_if (in_context_of (row t).1 (is_form_element t)) l
+
+known : (t : Tag) (l : Forest (List ℕ)) → is_plain_in t l ≡ true → is_taken t (tag_text t) ≡ true
+known tag.Other l h = cc
+known _ l h = cc
+
+-- a context in which lists are plain is one that a parser takes
+context_taken : (context : List ℕ) (l : Forest (List ℕ)) → is_plain context l ≡ true → is_context context ≡ true
+context_taken context l plain =
+    let named : context ≡ tag_text (tag_named context) = named_back tags context (tag_named context) refl (λ e. let z = ap (λ t. is_plain_in t l) (sym e) ∙ plain in cc) in
+    ap (is_taken (tag_named context)) named ∙ known (tag_named context) l plain
 
 -- a list under other numbers
 pub erased-numbered : (k : ℕ) (l : Forest (List ℕ)) → erased (numbered_forest k l) ≡ erased l

@@ -1,10 +1,9 @@
 -- What the rules ask of the names of plain elements, a class at a time.
-use Rattle.hlaws.proofs.Names.{◌≡◌, Bool, true, false, false≢true, Option, Some, refl, Tag, is_void, is_heading, has_implied_end, stops_button_scope, is_fostering, Family, Mode, InTable, InCaption, InColumnGroup, InTableBody, InRow, InCell, family_of, is_table_context, is_body_context, is_row_context, open_mode, Content, Role, holds_list_items, is_dl, row, is_a, is_button, is_form_element, drops_line_feed, inserts_marker}
+use Rattle.hlaws.proofs.Names.{◌≡◌, Bool, true, false, false≢true, Option, Some, refl, Tag, is_void, is_heading, has_implied_end, stops_button_scope, is_fostering, Family, Mode, InTable, InCaption, InColumnGroup, InTableBody, InRow, InCell, family_of, is_table_context, is_body_context, is_row_context, open_mode, Content, Role, holds_list_items, is_dl, row, is_a, is_button, is_form_element, drops_line_feed, inserts_marker, is_colgroup}
 use Rattle.names.specs.declared.tag.Tag.TheVariants as tag
 use Rattle.hmodes.specs.declared.family.Family.TheVariants as family
 use Rattle.hserialize.specs.declared.content.Content.TheVariants as content
 use Rattle.hserialize.specs.declared.content.Role.TheVariants as role
-use Rattle.hlaws.specs.Building.{is_colgroup}
 
 abbrev pub is_p : Tag → Bool
 is_p tag.P = true

@@ -1,8 +1,6 @@
 -- Facts of content, of the modes in which it is and of the names that it holds.
-use Rattle.hlaws.proofs.Names.{arith, ◌≡◌, ℕ, ◌&&◌, List, and_parts, What, Forest, tree, are_content, inside_node, is_plain_node, Bool, true, false, not, refl, ap, false≢true, stops_item, Tag, is_heading, Mode, InBody, InTable, InTableBody, InRow, InColumnGroup, Comment, rule_of, Content, Role, takes_role, texts_in, Inside, is_nested, is_a, is_button, is_form_element, inserts_marker, is_flow_mode, fits_mode, fits_current, holds_list_items, is_dl}
+use Rattle.hlaws.proofs.Names.{arith, ◌≡◌, ℕ, ◌&&◌, List, and_parts, What, Forest, tree, are_content, inside_node, is_plain_node, Bool, true, false, not, refl, ap, false≢true, stops_item, Tag, is_heading, Mode, InBody, InTable, InTableBody, InRow, InColumnGroup, Comment, rule_of, Content, Role, takes_role, texts_in, Inside, is_nested, is_a, is_button, is_form_element, inserts_marker, is_flow_mode, fits_mode, fits_current, holds_list_items, is_dl, stops_scope, insert_comment}
 use Rattle.names.specs.declared.tag.Tag.TheVariants as tag
-use Rattle.names.specs.Sets.{stops_scope}
-use Rattle.hmodes.specs.Words.{insert_comment}
 use Rattle.hserialize.specs.declared.content.Content.TheVariants as content
 use Rattle.hserialize.specs.declared.content.Role.TheVariants as role
 

@@ -1,13 +1,6 @@
 -- Plain documents come back, as their tokens are read and build them, and documents with identifiers without them.
-use Rattle.hlaws.proofs.Names.{◌≡◌, ℕ, false, ◌∙◌, sym, ap, subst, arith, suc, ◌+◌, ◌≤◌, List, ◌++◌, length, map, None, codes, refl, What, Forest, tree, none, size, Escaping, AreTexts, token_placed}
+use Rattle.hlaws.proofs.Names.{◌≡◌, ℕ, false, ◌∙◌, sym, ap, subst, arith, suc, ◌+◌, ◌≤◌, List, ◌++◌, length, map, None, codes, refl, What, Forest, tree, none, size, Escaping, AreTexts, token_placed, erased, node, no_tree, document, PlainDocumentTokens, PlainDocumentBuilds, PlainDocumentComesBack, GivesDocument, without_identifiers, ComesBackWithoutIdentifiers, written, written_among, node_text, is_raw_in, name_in, max, depth}
 use Rattle.hnodes.specs.Forest as forest
-use Rattle.hmodes.specs.Erased.{erased, node, no_tree}
-use Rattle.hparse.specs.Parse.{document}
-use Rattle.hlaws.specs.DocumentComesBack.{PlainDocumentTokens, PlainDocumentBuilds, PlainDocumentComesBack, GivesDocument, without_identifiers, ComesBackWithoutIdentifiers}
-use Rattle.hserialize.specs.Written.{written, written_among, node_text, is_raw_in}
-use Rattle.hnodes.specs.Spots.{name_in}
-use Rattle.std.specs.Prelude.{max}
-use Rattle.hlaws.specs.Building.{depth}
 use Rattle.hlaws.proofs.Accepted.{accepts}
 use Rattle.hlaws.proofs.Back.{erased-numbered, placed_token}
 

@@ -1,35 +1,19 @@
 -- The tokens of a plain document build it: its parts in their order, each in the insertion mode that takes it.
-use Rattle.hlaws.proofs.Names.{◌≡◌, ℕ, suc, ◌+◌, ◌<◌, ◌≤◌, Bool, true, false, ◌&&◌, cond, List, [], ◌∷◌, ◌++◌, length, map, None, Some, refl, sym, ◌∙◌, ap, subst, arith, inl, and_parts, ne_eqb, lt-leb, false≢true, nat_le, bytes_eq, bytes_eq-Decides, codes, chars, Attribute, What, element, text, Forest, none, tree, size, times, join, graft_last, if_text, text_before, LastIn, OpenNode, is_space, is_void, tag_named, Tag, texts, Goes, Start, End, Comment, Mode, InBody, Text, family_of, rule_of, perform, void, raw, Token, start, end, comment, character, eof, PlacedToken, Control, State, Done, Rule, step_begun, ends, goes_again, Step, goes, Steps, and, Inside, inside_element, are_content, plain_tokens, numbered_forest, under, AreTexts, Thinned, same}
+use Rattle.hlaws.proofs.Names.{◌≡◌, ℕ, suc, ◌+◌, ◌<◌, ◌≤◌, Bool, true, false, ◌&&◌, cond, List, [], ◌∷◌, ◌++◌, length, map, None, Some, refl, sym, ◌∙◌, ap, subst, arith, inl, and_parts, ne_eqb, lt-leb, false≢true, nat_le, bytes_eq, bytes_eq-Decides, codes, chars, Attribute, What, element, text, Forest, none, tree, size, times, join, graft_last, if_text, text_before, LastIn, OpenNode, is_space, is_void, tag_named, Tag, texts, Goes, Start, End, Comment, Mode, InBody, Text, family_of, rule_of, perform, void, raw, Token, start, end, comment, character, eof, PlacedToken, Control, State, Done, Rule, step_begun, ends, goes_again, Step, goes, Steps, and, Inside, inside_element, are_content, plain_tokens, numbered_forest, under, AreTexts, Thinned, same, Listed, with_error, Limits, document_begins, flow_of, mode_error, Again, kind_of, is_self_closing, Chain, is_dropped, finished, put, Initial, BeforeHtml, BeforeHead, InHead, AfterHead, AfterBody, AfterAfterBody, TokenKind, Ws, Doctype, is_plain, is_plain_text, is_plain_comment, are_plain_attributes, is_empty_text, is_leaf, leaves_then, comments_then, doctype_then, element_then, is_metadata, inside_head, are_metadata, body_on, are_in_html, html_on, is_plain_document, Texts, ActsAs, depth, is_flow_mode, is_character_token, PlainDocumentBuilds}
 use Rattle.hnodes.specs.Forest as forest
-use Rattle.hopen.specs.Formatting.{Listed}
 use Rattle.hadopt.specs.Inserts.{added}
-use Rattle.hadopt.specs.Site.{with_error}
-use Rattle.hmodes.specs.Beginning.{Limits, document_begins}
 use Rattle.hmodes.specs.Doctypes.{forces_quirks}
 use Rattle.hmodes.specs.Head.{in_head as head_rule}
-use Rattle.hmodes.specs.Perform.{flow_of}
-use Rattle.hmodes.specs.Rules.{mode_error}
-use Rattle.hmodes.specs.State.{Again, kind_of, is_self_closing}
-use Rattle.hmodes.specs.Step.{Chain, is_dropped, finished}
 use Rattle.hmodes.specs.Step as step
-use Rattle.hmodes.specs.Words.{put}
-use Rattle.hmodes.specs.declared.mode.Mode.TheVariants.{Initial, BeforeHtml, BeforeHead, InHead, AfterHead, AfterBody, AfterAfterBody}
-use Rattle.hmodes.specs.declared.token_kind.TokenKind.{TokenKind}
-use Rattle.hmodes.specs.declared.token_kind.TokenKind.TheVariants.{Ws, Doctype, Eof}
+use Rattle.hmodes.specs.declared.token_kind.TokenKind.TheVariants.{Eof}
 use Rattle.hmodes.specs.declared.family.Family.TheVariants as family
 use Rattle.names.specs.declared.tag.Tag.TheVariants as tag
-use Rattle.hserialize.specs.Plain.{is_plain, is_plain_text, is_plain_comment, are_plain_attributes}
-use Rattle.hserialize.specs.Words.{is_empty_text}
 use Rattle.hserialize.specs.PlainDocument as plain
-use Rattle.hserialize.specs.PlainDocument.{is_leaf, leaves_then, comments_then, doctype_then, element_then, is_metadata, inside_head, are_metadata, body_on, are_in_html, html_on, is_plain_document}
 use Rattle.hserialize.specs.declared.content.Content.TheVariants as content
-use Rattle.hserialize.specs.declared.content.Texts.{Texts}
 use Rattle.hserialize.specs.declared.content.Texts.TheVariants as allowed
-use Rattle.hlaws.specs.Building.{ActsAs, depth, is_flow_mode, is_character_token}
 use Rattle.hlaws.proofs.Content.{four}
-use Rattle.hlaws.specs.DocumentComesBack.{PlainDocumentBuilds}
 use Rattle.hlaws.proofs.FromTable.{good, lf_safe, is_text as text_is, spaced}
-use Rattle.hlaws.proofs.Growing.{graft-new, under-none, under-new, once-grown, free-grown, once-new, rest-grown, text_before-new, text_before-leaf}
+use Rattle.hlaws.proofs.Growing.{graft-new, under-none, under-new, once-grown, free-grown, once-new, rest-grown, times-numbered, text_before-new, text_before-leaf}
 use Rattle.hlaws.proofs.NamesAsTexts.{text_laws}
 use Rattle.hlaws.proofs.Rules as rules
 use Rattle.hlaws.proofs.Rules.{state, node}
@@ -37,7 +21,7 @@ use Rattle.hlaws.proofs.TokenLists.{AreTokens, first, parted, after, ended, IsTe
 use Rattle.hlaws.proofs.TokensDocument.{html_doctype, texts_after}
 use Rattle.hlaws.proofs.TokensWhole.{holds_text, no_role, no_comment}
 use Rattle.hlaws.proofs.Whole as whole
-use Rattle.hlaws.proofs.Whole.{begun_control, is_text, LfSafe, Quiet, NodeBuilt, Good, OneText, nothing_there, one_text}
+use Rattle.hlaws.proofs.Whole.{begun_control, is_text, LfSafe, Quiet, NodeBuilt, Good, OneText}
 
 abbrev Name : Type 0
 Name = List ℕ
@@ -156,7 +140,8 @@ module _ (limits : Limits) where
       let one : Forest Name = tree b w kids none in
       let made1 : ℕ = made + (1 + (size kids + 0)) in
       let back = law made1 (under d (numbered_forest made one) f) head.reached p.back (spot-grown made f one d q) head.there
-      (λ e. text_before-new d made w (numbered_forest (made + 1) kids) f q.once (q.free made (omega arith)) ∙ no_text_there made w (unlike e)) (omega arith) deep
+      (λ e. text_before-new d made w (numbered_forest (made + 1) kids) f q.once (q.free made (omega arith))
+      (times-numbered d (made + 1) kids (inl (let low = q.low in omega arith))) (times-numbered made (made + 1) kids (inl (omega arith))) ∙ no_text_there made w (unlike e)) (omega arith) deep
       p.backs in
       let count : made1 + size rest ≡ made + (1 + (size kids + size rest)) = omega arith in
       let grown = rest-grown d made b w kids rest f in
@@ -307,18 +292,11 @@ module _ (limits : Limits) where
       let k = whole.text_built texts text_laws here.z x up [] m is_space (rules.space_puts texts here.z x up [] m ws) made f q.once
       (q.free made (omega arith)) t i here.c ts here.stands.mode (rw here.no_drop refl) (spaced t i u.0 (grind arith)) (no_text refl)
       (let y = here.stands.nodes in omega arith) tokens in
-      let s1 : State Name = state here.z (made + 1) (under x.node (tree made (text t) none none) f) (x ∷ up) [] k.control' in
+      let s1 : State Name = state here.z (made + 1) (under x.node (tree made (text t) none none) f) (x ∷ up) [] (begun_control here.c) in
       record {
         reached = s1;
-        steps = subst (λ (v : State Name). Steps texts ts v (Goes s1)) (sym here.is) k.steps;
-        there = record {
-          z = here.z;
-          c = k.control';
-          is = refl;
-          stands = still here.stands (k.keeps.mode ∙ here.stands.mode) k.keeps.form;
-          no_drop =
-              k.no_drop;
-        };
+        steps = subst (λ (v : State Name). Steps texts ts v (Goes s1)) (sym here.is) k;
+        there = record { z = here.z; c = begun_control here.c; is = refl; stands = still here.stands here.stands.mode refl; no_drop = refl };
       }
   spaces m x up puts ws b _ rest made f s ts u is q here no_text room tokens = absurd (false≢true is)
 
@@ -473,7 +451,11 @@ module _ (limits : Limits) where
       raw_adds : (kids : Forest Name) → head_rule (Start (family_of (tag_named x))) ≡ raw → OneText texts text_laws here.z kids
           → made + (1 + size kids) ≤ limits.nodes → (ts : List (PlacedToken Name)) → AreTokens ts (start x attrs false ∷ plain_tokens texts kids ++ end x ∷ [])
           → Adds (tree b (element x attrs) kids none) made f e s InTheHead ts
-      raw_adds kids rule content room_in ts tokens = go content
+      raw_adds kids rule content room_in ts tokens =
+          built_in_head b (element x attrs) kids made f s ts here refl
+          (whole.raw_element texts text_laws here.z b x attrs made f (head_node e) (html_node h ∷ []) [] here.c c1
+          (state here.z made f in_the_head [] here.c) q.once q.free (λ at t o e chain. chain) opening refl refl refl refl refl kids content
+          (whole.lf_none texts text_laws here.z kids) (let y = here.stands.nodes in omega arith) ts tokens)
         where
           c1 : Control
           c1 = record (begun_control here.c) { saved = here.c.mode; mode = Text }
@@ -481,22 +463,6 @@ module _ (limits : Limits) where
           opening : (at : ℕ) → Rule texts at (start x attrs false) now ≡ Done (state here.z (made + 1) (under e leaf f) (node made x ∷ in_the_head) [] c1)
           opening at = rules.by_mode texts here.z at (start x attrs false) InHead (Start (family_of (tag_named x))) now _ here.stands.mode refl
               (ap (λ r. perform texts at (start x attrs false) r now) rule ∙ simp (full, high, grown) refl)
-
-          go : OneText texts text_laws here.z kids → Adds (tree b (element x attrs) kids none) made f e s InTheHead ts
-          go (nothing_there is) =
-              subst (λ (v : Forest Name). Adds (tree b (element x attrs) v none) made f e s InTheHead ts) (sym is)
-              (built_in_head b (element x attrs) none made f s ts here refl
-              (whole.raw_empty texts text_laws here.z b x attrs made f (head_node e) (html_node h ∷ []) [] here.c c1
-              (state here.z made f in_the_head [] here.c) q.once q.free (λ at t o e chain. chain) opening refl refl refl refl refl ts
-              (subst (λ (v : Forest Name). AreTokens ts (start x attrs false ∷ plain_tokens texts v ++ end x ∷ [])) is tokens)))
-          go (one_text b' t i is) =
-              let sized : size kids ≡ 1 = ap size is in
-              subst (λ (v : Forest Name). Adds (tree b (element x attrs) v none) made f e s InTheHead ts) (sym is)
-              (built_in_head b (element x attrs) (tree b' (text t) none none) made f s ts here refl
-              (whole.raw_text texts text_laws here.z b x attrs made f (head_node e) (html_node h ∷ []) [] here.c c1
-              (state here.z made f in_the_head [] here.c) q.once q.free (λ at t o e chain. chain) opening refl refl refl refl refl b' t i refl
-              (let y = here.stands.nodes in omega (arith, room_in, sized)) ts
-              (subst (λ (v : Forest Name). AreTokens ts (start x attrs false ∷ plain_tokens texts v ++ end x ∷ [])) is tokens)))
 
     head_leaf : LeafLaw allowed.WhiteSpace e InTheHead
     head_leaf = spaces InHead (head_node e) (html_node h ∷ []) (λ z at made t f c. refl) refl

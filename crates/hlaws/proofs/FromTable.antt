@@ -1,11 +1,7 @@
 -- A list that the table calls content is good.
-use Rattle.hlaws.proofs.Names.{nat_tests, false_from_ne_true, ◌≡◌, ℕ, zero, suc, ◌<◌, Bool, true, false, not, ◌&&◌, List, [], ◌∷◌, ◌++◌, refl, sym, ◌∙◌, ap, subst, arith, ◌⊎◌, inl, inr, and_parts, false≢true, eqb-true, not-true, encodes-chars, encode_ascii, IsUtf8, chars, encode_utf8, encode_utf8_all, codes, ◌==◌, list_all, Forest, none, tree, element, text, tag_named, texts, Content, takes_comments, texts_in, takes_space, AreTexts, Inside, inside_element, inside_node, is_nested, are_content, is_plain_node, is_plain_text, is_plain_comment, is_clean, is_among_texts, begins_with, begins_with_text, begins_with_line_feed, drops_line_feed, is_empty_text}
-use Rattle.std.proofs.lemmas.Str.{encodes-IsAscii, chars_from_encodes}
-use Rattle.std.specs.Prelude.{IsAscii}
-use Rattle.std.specs.Char.{is_ascii_whitespace}
+use Rattle.hlaws.proofs.Names.{nat_tests, false_from_ne_true, ◌≡◌, ℕ, zero, suc, ◌<◌, Bool, true, false, not, ◌&&◌, List, [], ◌∷◌, ◌++◌, refl, sym, ◌∙◌, ap, subst, arith, ◌⊎◌, inl, inr, and_parts, false≢true, eqb-true, not-true, encodes-chars, encode_ascii, IsUtf8, chars, encode_utf8, encode_utf8_all, codes, ◌==◌, list_all, Forest, none, tree, element, text, tag_named, texts, Content, takes_comments, texts_in, takes_space, AreTexts, Inside, inside_element, inside_node, is_nested, are_content, is_plain_node, is_plain_text, is_plain_comment, is_clean, is_among_texts, begins_with, begins_with_text, begins_with_line_feed, drops_line_feed, is_empty_text, encodes-IsAscii, chars_from_encodes, IsAscii, is_ascii_whitespace, Texts}
 use Rattle.hnodes.specs.Forest as forest
 use Rattle.hserialize.specs.declared.content.Content.TheVariants as content
-use Rattle.hserialize.specs.declared.content.Texts.{Texts}
 use Rattle.hserialize.specs.declared.content.Texts.TheVariants as allowed
 use Rattle.hlaws.proofs.TokensText.{clean_text, is_clean_char}
 use Rattle.hlaws.proofs.Content.{three, four}

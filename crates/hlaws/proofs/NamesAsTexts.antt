@@ -1,7 +1,6 @@
 -- What is used of names, where they are texts.
-use Rattle.hlaws.proofs.Names.{false_from_ne_true, ◌≡◌, ℕ, Bool, true, false, cond, List, [], ◌∷◌, refl, sym, ◌∙◌, ap, false≢true, bytes_eq-Decides, bytes_eq, Tag, tag_text, tags, tag_named, texts, family_of, holds_list_items, is_dl, is_a, is_button}
+use Rattle.hlaws.proofs.Names.{false_from_ne_true, ◌≡◌, ℕ, Bool, true, false, cond, List, [], ◌∷◌, refl, sym, ◌∙◌, ap, false≢true, bytes_eq-Decides, bytes_eq, Tag, tag_text, tags, tag_named, texts, family_of, holds_list_items, is_dl, is_a, is_button, tag_among}
 use Rattle.names.specs.declared.tag.Tag.TheVariants as tag
-use Rattle.names.specs.Tags.{tag_among}
 use Rattle.names.proofs.KnownTags.{different}
 use Rattle.hmodes.specs.declared.family.Family.TheVariants as family
 use Rattle.hlaws.proofs.Classes.{is_p}

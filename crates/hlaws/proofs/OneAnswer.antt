@@ -1,9 +1,7 @@
 -- The bytes of a document have exactly one list of tokens and errors, or refusal.
-use Rattle.hlaws.proofs.Names.{◌≡◌, ℕ, List, ◌++◌, length, Option, None, Some, Result, Ok, Err, refl, sym, ap, ◌∙◌, subst, IsPermutation, ParseError, Placed, RefusedName, Refusal, OutOfProfile, input_errors, Policy, read_len, refusal_of, Entities, Tok, Tokens, HasAnswer, gives, refuses, one_list_of_tokens, no_tokens_of_refused, one_refusal, some_answer, ExactlyOne, in_order, order-permutes, order-sorted}
+use Rattle.hlaws.proofs.Names.{◌≡◌, ℕ, List, ◌++◌, length, Option, None, Some, Result, Ok, Err, refl, sym, ap, ◌∙◌, subst, IsPermutation, ParseError, Placed, RefusedName, Refusal, OutOfProfile, input_errors, Policy, read_len, refusal_of, Entities, Tok, Tokens, HasAnswer, gives, refuses, one_list_of_tokens, no_tokens_of_refused, one_refusal, some_answer, ExactlyOne, in_order, order-permutes, order-sorted, decoded, Answers, read_text, refused_text, OneAnswer}
 use Rattle.names.specs.declared.raw.RawKind.TheVariants as kind
-use Rattle.htext.specs.Text.{decoded}
-use Rattle.hparse.specs.Answer.{Answers, read_text, refused_text, refused_bytes, accepted}
-use Rattle.hlaws.specs.OneAnswer.{OneAnswer}
+use Rattle.hparse.specs.Answer.{refused_bytes, accepted}
 use Rattle.hlaws.proofs.OneInput.{all-read, one-some, never-both, one-list}
 
 module _ (table : Entities) (how : Policy) (bytes : List ℕ) where

@@ -1,6 +1,5 @@
 -- What is said of an input in two ways is one thing.
-use Rattle.hlaws.proofs.Names.{arith, nat_tests, ◌≡◌, ℕ, List, length, Option, None, Some, sym, ◌∙◌, IsPermutation, IsSorted, ParseError, Policy, read_len, refusal_of, error_cmp}
-use Rattle.std.proofs.lemmas.List.Sorted.{IsPermutation-sym, IsPermutation-trans}
+use Rattle.hlaws.proofs.Names.{arith, nat_tests, ◌≡◌, ℕ, List, length, Option, None, Some, sym, ◌∙◌, IsPermutation, IsSorted, ParseError, Policy, read_len, refusal_of, error_cmp, IsPermutation-sym, IsPermutation-trans}
 use Rattle.hlaws.proofs.OneOrder.{sorted-once}
 
 -- bytes that are not refused are all read

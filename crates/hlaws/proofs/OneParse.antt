@@ -1,15 +1,12 @@
 -- The bytes of a document or of a fragment have exactly one tree and list of errors, or refusal.
-use Rattle.hlaws.proofs.Names.{◌≡◌, ℕ, false, List, [], ◌∷◌, ◌++◌, length, map, Option, None, Some, Result, Ok, Err, refl, sym, ap, ◌∙◌, subst, append-nil, IsPermutation, map-append, ParseError, Placed, RawKind, RefusedName, Refusal, OutOfProfile, input_errors, read_len, refusal_of, Tok, Span, Gives, at_start, start_kind, spans_text, Cut, has_refused, Tokens, AreFront, eof_of, texts, Outcome, Goes, Refused, PlacedToken, State, Step, Steps, and, HasAnswer, gives, refuses, one_list_of_tokens, no_tokens_of_refused, one_refusal, some_answer, reads_in, input_text, ParseOptions, fragment, Parse, Parses, manner, policy, start_of, refused_token, refused_tag, accepted, token_placed, ExactlyOne, in_order, order-permutes, order-sorted}
-use Rattle.htoken.specs.Tokens.{IsRefused, tokens_in, tokens_of}
+use Rattle.hlaws.proofs.Names.{◌≡◌, ℕ, false, List, [], ◌∷◌, ◌++◌, length, map, Option, None, Some, Result, Ok, Err, refl, sym, ap, ◌∙◌, subst, append-nil, IsPermutation, map-append, ParseError, Placed, RawKind, RefusedName, Refusal, OutOfProfile, input_errors, read_len, refusal_of, Tok, Span, Gives, at_start, start_kind, spans_text, Cut, has_refused, Tokens, AreFront, eof_of, texts, Outcome, Goes, Refused, PlacedToken, State, Step, Steps, and, HasAnswer, gives, refuses, one_list_of_tokens, no_tokens_of_refused, one_refusal, some_answer, reads_in, input_text, ParseOptions, fragment, Parse, Parses, manner, policy, start_of, refused_token, refused_tag, accepted, token_placed, ExactlyOne, in_order, order-permutes, order-sorted, IsRefused, tokens_in, tokens_of, refused, ParseCase, document, first_state, refused_bytes, OneParse}
 use Rattle.hmodes.specs.Reached.{Reached, after}
 use Rattle.hmodes.specs.Reached as reached
-use Rattle.hmodes.specs.Step.{none, refused}
+use Rattle.hmodes.specs.Step.{none}
 use Rattle.hmodes.proofs.Between.{texts-all, reached-orderly}
 use Rattle.hmodes.proofs.Ends.{some-step}
 use Rattle.hmodes.proofs.Single.{step-one}
 use Rattle.htoken.proofs.OneFront.{one_front, one_front_of_refused}
-use Rattle.hparse.specs.Parse.{ParseCase, document, first_state, refused_bytes}
-use Rattle.hlaws.specs.OneAnswer.{OneParse}
 use Rattle.hlaws.proofs.OneInput.{all-read, one-list}
 
 -- tokens in order have one result

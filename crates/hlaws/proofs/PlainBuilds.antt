@@ -1,8 +1,6 @@
 -- The tokens of a plain list build it from each quiet state.
-use Rattle.hlaws.proofs.Names.{◌≡◌, ℕ, suc, ◌+◌, ◌≤◌, Bool, true, false, not, List, ◌∷◌, length, refl, sym, ap, subst, arith, Forest, size, texts, State, BuildsForest, begins_with_line_feed}
-use Rattle.hadopt.specs.Site.{trees}
+use Rattle.hlaws.proofs.Names.{◌≡◌, ℕ, suc, ◌+◌, ◌≤◌, Bool, true, false, not, List, ◌∷◌, length, refl, sym, ap, subst, arith, Forest, size, texts, State, BuildsForest, begins_with_line_feed, trees, PlainBuilds}
 use Rattle.hlaws.specs.Building as spec
-use Rattle.hlaws.specs.ComesBack.{PlainBuilds}
 use Rattle.hlaws.proofs.FromTable.{good, lf_safe}
 use Rattle.hlaws.proofs.NamesAsTexts.{text_laws}
 use Rattle.hlaws.proofs.Rules.{state}

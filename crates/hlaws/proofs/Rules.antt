@@ -1,16 +1,5 @@
 -- The rules where the state is quiet: by the mode, and what they do with characters.
-use Rattle.hlaws.proofs.Names.{arith, nat_tests, ◌≡◌, ℕ, ◌+◌, ◌<◌, Bool, true, false, List, [], ◌∷◌, ◌++◌, map, None, refl, sym, ◌∙◌, ap, lt-leb, false≢true, list_all, nat_le, encode_utf8, ◌==◌, text, Forest, none, tree, times, text_before, LastIn, OpenNode, Listed, entry, Placed, is_space, Naming, Outcome, Goes, is_fostering, Family, Mode, InBody, InCaption, InCell, Text, InTable, InTableText, InTableBody, InRow, Comment, Start, End, rule_of, perform, Token, character, Control, State, Done, kind_of, Rule, goes_again, step_begun, is_flow_mode, under, EntriesOpen}
-use Rattle.hmodes.specs.Step.{Chain}
-use Rattle.std.proofs.lemmas.List.{append-nil, append_assoc}
-use Rattle.std.specs.Str.{encode_utf8_all}
-use Rattle.hnodes.specs.Edits.{with_char}
-use Rattle.hadopt.specs.Reconstructs.{reconstructed}
-use Rattle.hmodes.specs.declared.token_kind.TokenKind.{TokenKind}
-use Rattle.hmodes.specs.declared.token_kind.TokenKind.TheVariants.{Nul, Ws, Char}
-use Rattle.hmodes.specs.Words.{Do, put}
-use Rattle.hmodes.specs.Body.{character_in_body}
-use Rattle.hmodes.specs.Perform.{each_of}
-use Rattle.hmodes.specs.State.{Flow, Again, flow_then}
+use Rattle.hlaws.proofs.Names.{arith, nat_tests, ◌≡◌, ℕ, ◌+◌, ◌<◌, Bool, true, false, List, [], ◌∷◌, ◌++◌, map, None, refl, sym, ◌∙◌, ap, lt-leb, false≢true, list_all, nat_le, encode_utf8, ◌==◌, text, Forest, none, tree, times, text_before, LastIn, OpenNode, Listed, entry, Placed, is_space, Naming, Outcome, Goes, is_fostering, Family, Mode, InBody, InCaption, InCell, Text, InTable, InTableText, InTableBody, InRow, Comment, Start, End, rule_of, perform, Token, character, Control, State, Done, kind_of, Rule, goes_again, step_begun, is_flow_mode, under, EntriesOpen, Chain, append-nil, append_assoc, encode_utf8_all, with_char, reconstructed, TokenKind, Nul, Ws, Char, Do, put, character_in_body, each_of, Flow, Again, flow_then}
 use Rattle.hlaws.proofs.TokensText.{is_clean_char, clean_not_null}
 use Rattle.hlaws.proofs.Growing.{graft-new, what-new, text_before-new}
 
@@ -110,7 +99,7 @@ module _ {N : Type 0} (n : Naming N) (z : State N) where
     pub put_next : (at ch made k : ℕ) (t : List ℕ) (g : Forest N) (c : Control) → times d.node g ≡ 1 → times k g ≡ 0
         → perform n at (character ch) put (state z made (under d.node (tree k (text t) none none) g) (d ∷ up) items c) ≡ Done (state z made (under d.node (tree k (text (t ++ encode_utf8 ch)) none none) g) (d ∷ up) items c)
     put_next at ch made k t g c once absent =
-        rw (text_before-new d.node k (text t) none g once absent) (ap (λ u. Done (state z made u (d ∷ up) items c)) (what-new d.node k (with_char ch) (text t) g absent))
+        rw (text_before-new d.node k (text t) none g once absent refl refl) (ap (λ u. Done (state z made u (d ∷ up) items c)) (what-new d.node k (with_char ch) (text t) g absent))
 
     -- a mode puts the characters that pass
     abbrev pub Puts : Mode → (ℕ → Bool) → Type 0

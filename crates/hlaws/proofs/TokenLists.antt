@@ -1,6 +1,5 @@
 -- Tokens with their places, and what the law of building asks of texts.
-use Rattle.hlaws.proofs.Names.{list_all, ◌≡◌, ℕ, Bool, true, false, List, [], ◌∷◌, ◌++◌, map, refl, ◌∙◌, ap, encode_utf8_all, chars, text, Forest, tree, Naming, Goes, Token, PlacedToken, State, Steps, and}
-use Rattle.names.proofs.Words.{heads, tails}
+use Rattle.hlaws.proofs.Names.{list_all, ◌≡◌, ℕ, Bool, true, false, List, [], ◌∷◌, ◌++◌, map, refl, ◌∙◌, ap, encode_utf8_all, chars, text, Forest, tree, Naming, Goes, Token, PlacedToken, State, Steps, and, heads, tails}
 use Rattle.hlaws.proofs.TokensText.{is_clean_char}
 use Rattle.hmodes.specs.Step as step
 

@@ -1,8 +1,5 @@
 -- A character as it is written, and the key that it is written by.
-use Rattle.hlaws.proofs.Names.{nat_tests, ◌≡◌, ℕ, ◌≤◌, Bool, true, false, not, cond, ◌&&◌, nat_eq, Some, List, [], ◌∷◌, ◌++◌, length, refl, sym, ◌∙◌, ap, subst, arith, scalar, scalars, and_parts, eqb-true, bytes_eq-Decides, codes, flat_map, encode_utf8, ◌==◌, list_all, is_alphanumeric, Entities, IsTable, HasCore, longest, ends_in_semicolon, Escaping, written_char}
-use Rattle.std.proofs.Common.{bytes_eq, Contains}
-use Rattle.std.specs.List.{starts_with}
-use Rattle.charref.specs.Reference.{Entry, is_key, is_key_name}
+use Rattle.hlaws.proofs.Names.{nat_tests, ◌≡◌, ℕ, ◌≤◌, Bool, true, false, not, cond, ◌&&◌, nat_eq, Some, List, [], ◌∷◌, ◌++◌, length, refl, sym, ◌∙◌, ap, subst, arith, scalar, scalars, and_parts, eqb-true, bytes_eq-Decides, codes, flat_map, encode_utf8, ◌==◌, list_all, is_alphanumeric, Entities, IsTable, HasCore, longest, ends_in_semicolon, Escaping, written_char, bytes_eq, Contains, starts_with, Entry, is_key, is_key_name, escapes_quote, escapes_angles}
 use Rattle.charref.specs.Table.{IsOver}
 use Rattle.charref.proofs.Keys.{longest-over}
 use Rattle.charref.proofs.Core.{has_found}
@@ -10,7 +7,6 @@ use Rattle.charref.proofs.Naming.{is_key_of}
 use Rattle.hserialize.specs.declared.escaping.Escaping.TheVariants as escaping
 use Rattle.hserialize.specs.declared.escaping.Setting.{Setting}
 use Rattle.hserialize.specs.declared.escaping.Setting.TheVariants as setting
-use Rattle.hserialize.specs.Escaping.{escapes_quote, escapes_angles}
 use Rattle.hlaws.proofs.TokensText.{Spells, spells-nil, spells-append, spells_ascii, spells_char, is_no_return, is_clean_char, is_written_ascii, clean_no_return, clean_not_null}
 
 -- THE LONGEST KEY

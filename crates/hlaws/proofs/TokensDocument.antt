@@ -1,27 +1,18 @@
 -- Plain documents are read as their own tokens.
-use Rattle.hlaws.proofs.Names.{begins_with, ◌||◌, plain_tokens, append-nil, all-characters, is_space, inside_element, ◌≡◌, ℕ, Bool, true, false, not, ◌&&◌, cond, List, [], ◌∷◌, ◌++◌, map, Some, None, refl, sym, ◌∙◌, ap, subst, arith, and_parts, false≢true, bytes_eq-Decides, codes, list_all, to_ascii_lowercase, Placed, characters, name_bytes, raw_kind, tag_named, Entities, IsTable, HasCore, What, Forest, none, tree, texts, Token, Standing, IsSpanOf, Span, RawKind, Escaping, AreTexts, is_plain_comment, first_is}
+use Rattle.hlaws.proofs.Names.{begins_with, ◌||◌, plain_tokens, append-nil, all-characters, is_space, inside_element, ◌≡◌, ℕ, Bool, true, false, not, ◌&&◌, cond, List, [], ◌∷◌, ◌++◌, map, Some, None, refl, sym, ◌∙◌, ap, subst, arith, and_parts, false≢true, bytes_eq-Decides, codes, list_all, to_ascii_lowercase, Placed, characters, name_bytes, raw_kind, tag_named, Entities, IsTable, HasCore, What, Forest, none, tree, texts, Token, Standing, Span, Escaping, AreTexts, is_plain_comment, first_is, null_errors, is_greater, lowered, Tag, Drop, is_plain, ends_document, is_leaf, leaves_then, comments_then, doctype_then, element_then, is_metadata, inside_head, are_metadata, body_on, are_in_html, html_on, is_plain_document, Texts, written_among, PlainDocumentTokens, in_data, is_raw}
 use Rattle.names.specs.declared.raw.RawKind.TheVariants as kind
-use Rattle.names.specs.Placed.{null_errors, is_greater, lowered}
-use Rattle.names.specs.declared.tag.Tag.{Tag}
 use Rattle.names.specs.declared.tag.Tag.TheVariants as tag
-use Rattle.htext.specs.declared.Bom.TheVariants.{Drop}
 use Rattle.hnodes.specs.Forest as forest
 use Rattle.hmarkup.specs.Doctype as production
 use Rattle.hmarkup.specs.Doctype.{IsDoctype}
 use Rattle.htoken.specs.Data as data_span
 use Rattle.hmodes.specs.State.{doctype}
-use Rattle.hserialize.specs.Plain.{is_plain}
-use Rattle.hserialize.specs.PlainDocument.{ends_document, is_leaf, leaves_then, comments_then, doctype_then, element_then, is_metadata, inside_head, are_metadata, body_on, are_in_html, html_on, is_plain_document}
-use Rattle.hserialize.specs.declared.content.Texts.{Texts}
 use Rattle.hserialize.specs.declared.content.Texts.TheVariants as allowed
-use Rattle.hserialize.specs.Written.{written_among}
-use Rattle.hlaws.specs.DocumentComesBack.{PlainDocumentTokens}
 use Rattle.hlaws.proofs.Content.{four}
 use Rattle.hlaws.proofs.TokensText.{spells_ascii, unmarked}
 use Rattle.hlaws.proofs.TokensCuts.{split, Cuts, one, cuts_as}
 use Rattle.hlaws.proofs.TokensTags.{name_bytes_are}
 use Rattle.hlaws.proofs.TokensPlain.{InData, Reads, reads-nil, reads-append, IsKnownName, document_name, of_documents}
-use Rattle.hlaws.proofs.TokensRaw.{is_raw}
 use Rattle.hlaws.proofs.TokensWhole as whole
 
 -- DOCTYPES
@@ -74,7 +65,7 @@ doctype_cuts table end_at here text rest is_data e =
         let span : Span = data_span.doctype_span end_at opening ((s ∷ []) ++ (name ++ close)) found (null_errors name) in
         cuts_as table end_at here span.text text rest (html_doctype ∷ []) InData is
         (one table end_at here rest span (html_doctype ∷ []) InData
-        (subst (λ (k : RawKind). IsSpanOf k table end_at here rest span) (sym is_data)
+        (in_data table end_at here rest span is_data
         (data_span.doctype opening ((s ∷ []) ++ (name ++ close)) found (null_errors name) (lowers opening ∙ ap (map to_ascii_lowercase) opens) is_doctype
         refl))
         (ap (λ (x : List ℕ). doctype (Some x) None None false ∷ []) html) refl refl)

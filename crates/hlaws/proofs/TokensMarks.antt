@@ -1,14 +1,11 @@
 -- Tags and comments, whole.
-use Rattle.hlaws.proofs.Names.{◌≡◌, ℕ, Bool, true, false, not, ◌&&◌, ◌||◌, nat_eq, Some, List, [], ◌∷◌, ◌++◌, map, refl, sym, ◌∙◌, ap, subst, arith, append-nil, append_assoc, and_right, or_from, or_parts, nat_tests, map-append, codes, encode_utf8_all, list_all, all-characters, all_weaker, first_is, Placed, RawKind, characters, place, begins, spells, all, is_letter, without_null, name_bytes, raw_kind, is_refused, tag_named, Entities, IsTable, Attribute, Span, Standing, next, parts_text, attributes_after, ends_name, IsSpanOf, has_refused, start, end, comment, token_taken, begins_with, has_part}
+use Rattle.hlaws.proofs.Names.{◌≡◌, ℕ, Bool, true, false, not, ◌&&◌, ◌||◌, nat_eq, Some, List, [], ◌∷◌, ◌++◌, map, refl, sym, ◌∙◌, ap, arith, append-nil, append_assoc, and_right, or_from, or_parts, nat_tests, map-append, codes, encode_utf8_all, list_all, all-characters, all_weaker, first_is, Placed, characters, place, begins, spells, all, is_letter, without_null, name_bytes, raw_kind, is_refused, tag_named, Entities, IsTable, Attribute, Span, Standing, next, parts_text, attributes_after, ends_name, has_refused, start, end, comment, token_taken, begins_with, has_part, stops, before, Avoids, text_bytes, tag_errors, end_tag_errors, comment_span, in_data}
 use Rattle.names.specs.declared.raw.RawKind.TheVariants as kind
-use Rattle.names.specs.Placed.{stops, before, Avoids, text_bytes}
 use Rattle.hmarkup.specs.Comment.{IsComment, closed, closes_comment, closes_at_once}
 use Rattle.hmarkup.specs.Comment as text_of_comment
 use Rattle.hmarkup.proofs.Marks.{before-avoids, before-here}
 use Rattle.htoken.specs.Token.{Start, End}
 use Rattle.htoken.specs.Tag.{IsTag, start_tag, end_tag}
-use Rattle.htag.specs.Tag.{tag_errors, end_tag_errors}
-use Rattle.htoken.specs.Data.{comment_span}
 use Rattle.htoken.specs.Data as production
 use Rattle.hlaws.proofs.TokensText.{is_clean_char, clean_not_null, tail_of}
 use Rattle.hlaws.proofs.TokensCuts.{split, Cuts, one, cuts_as}
@@ -68,7 +65,7 @@ module _ (table : Entities) (is_table : IsTable table) (end_at : ℕ) where
       cuts_as table end_at here span.text text rest (start name attrs false ∷ []) (λ there. there ≡ after_start name)
       (ap (λ (x : List Placed). ((q.front ++ q.back) ++ x) ++ s.back) p.text_is ∙ sym (s.is ∙ ap (λ (x : List Placed). x ++ s.back) (r.is ∙ ap (λ (x : List Placed). x ++ r.back) q.is)))
       (one table end_at here rest span (start name attrs false ∷ []) (λ there. there ≡ after_start name)
-      (subst (λ (k : RawKind). IsSpanOf k table end_at here rest span) (sym is_data) (production.tag is_tag))
+      (in_data table end_at here rest span is_data (production.tag is_tag))
       (λ i. start (n i) (p.attributes_are i) false ∷ []) (ap (λ (x : List ℕ). is_refused (tag_named x) || false) n ∙ or_from _ _ is_name.allowed refl) (ap after_start n))
 
 module _ (table : Entities) (end_at : ℕ) where
@@ -107,7 +104,7 @@ module _ (table : Entities) (end_at : ℕ) where
       let t = an_end_tag name text rest is_name e in
       cuts_as table end_at here t.span.text text rest (end name ∷ []) (λ there. there.kind ≡ kind.None) t.text_is
       (one table end_at here rest t.span (end name ∷ []) (λ there. there.kind ≡ kind.None)
-      (subst (λ (k : RawKind). IsSpanOf k table end_at here rest t.span) (sym is_data) (production.tag t.is_tag)) t.tokens_are t.in_profile (ap (λ (x : Standing). x.kind) (t.leads here)))
+      (in_data table end_at here rest t.span is_data (production.tag t.is_tag)) t.tokens_are t.in_profile (ap (λ (x : Standing). x.kind) (t.leads here)))
 
 -- COMMENTS
 
@@ -176,5 +173,5 @@ comment_cuts table end_at cs t text rest here is_data is e =
     cuts_as table end_at here span.text text rest (comment t ∷ []) (λ there. there.kind ≡ kind.None)
     (sym (s.is ∙ ap (λ (x : List Placed). x ++ s.back) q.is ∙ append_assoc q.front q.back s.back))
     (one table end_at here rest span (comment t ∷ []) (λ there. there.kind ≡ kind.None)
-    (subst (λ (k : RawKind). IsSpanOf k table end_at here rest span) (sym is_data) (production.comment q.front body (text_bytes q.back) (text_of_comment.comment_errors_after [] body) q.fronts is_comment refl))
+    (in_data table end_at here rest span is_data (production.comment q.front body (text_bytes q.back) (text_of_comment.comment_errors_after [] body) q.fronts is_comment refl))
     (ap (λ (x : List ℕ). comment x ∷ []) contents_are) refl refl)

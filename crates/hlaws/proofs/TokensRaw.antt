@@ -1,10 +1,6 @@
 -- Raw texts, and the end tags that end them.
-use Rattle.hlaws.proofs.Names.{nat_tests, ◌≡◌, ℕ, suc, ◌+◌, Bool, true, false, not, cond, ◌&&◌, Some, None, List, [], ◌∷◌, ◌++◌, map, length, drop, refl, sym, ◌∙◌, ap, subst, arith, append_assoc, true≢false, and_parts, and_from, and_right, or_parts, or_right, false_from_ne_true, map-append, ◌==◌, codes, to_ascii_lowercase, list_all, first_is, Placed, RawKind, characters, begins, spells, without_null, Entities, Span, piece_span, Standing, IsSpanOf, raw_character, has_references, is_raw_end, is_end_tag_of, may_end, ends_name, ends_attribute_name, plain_piece, end, character, begins_with, has_part}
-use Rattle.std.specs.Prelude.{Option}
+use Rattle.hlaws.proofs.Names.{nat_tests, ◌≡◌, ℕ, suc, ◌+◌, Bool, true, false, not, cond, ◌&&◌, Some, None, List, [], ◌∷◌, ◌++◌, map, length, drop, refl, sym, ◌∙◌, ap, subst, arith, append_assoc, true≢false, and_parts, and_from, and_right, or_parts, or_right, false_from_ne_true, map-append, ◌==◌, codes, to_ascii_lowercase, list_all, first_is, Placed, characters, begins, spells, without_null, Entities, piece_span, Standing, raw_character, has_references, is_raw_end, is_end_tag_of, may_end, ends_name, ends_attribute_name, plain_piece, end, character, begins_with, has_part, Option, spells_in_any_case, raw_end, level, is_raw, in_raw}
 use Rattle.names.specs.declared.raw.RawKind.TheVariants as kind
-use Rattle.names.specs.Placed.{spells_in_any_case}
-use Rattle.htoken.specs.Spans.{IsRawSpan, raw_end}
-use Rattle.htoken.specs.Raw.{level}
 use Rattle.hlaws.proofs.TokensText.{is_clean_char, clean_not_null, is_written_ascii, tail_of}
 use Rattle.hlaws.proofs.TokensCuts.{split, Cuts, one, join, cuts_as, cuts_none}
 use Rattle.hlaws.proofs.TokensTags.{is_good}
@@ -24,14 +20,6 @@ pub no_end_of_none : (text rest : List Placed) → NoEnd None text rest
 no_end_of_none [] rest = tt
 no_end_of_none (p ∷ ps) rest = (refl, no_end_of_none ps rest)
 
-abbrev pub is_raw : RawKind → Bool
-is_raw kind.None = false
-is_raw _ = true
-
-pub raw_span : (table : Entities) (end_at : ℕ) (here : Standing) (rest : List Placed) (span : Span) (k : RawKind) → is_raw k ≡ true → IsRawSpan table end_at here rest span → IsSpanOf k table end_at here rest span
-raw_span table end_at here rest span kind.None h s = absurd cc
-raw_span table end_at here rest span _ h s = s
-
 abbrev pub pushed_on : Standing → List Placed → Standing
 pushed_on here text = record { kind = here.kind; name = here.name; front = pushed text here.front }
 
@@ -40,7 +28,7 @@ module _ (table : Entities) (end_at : ℕ) where
       → Cuts table end_at here (p ∷ []) rest (character c ∷ []) (λ there. there ≡ pushed_on here (p ∷ []))
   raw_char p c rest here raw none same clean stays =
       one table end_at here rest (piece_span (plain_piece p)) (character c ∷ []) (λ there. there ≡ pushed_on here (p ∷ []))
-      (raw_span table end_at here rest (piece_span (plain_piece p)) here.kind raw (raw_character p (and_right _ _ stays) (rw none refl) refl))
+      (in_raw table end_at here rest (piece_span (plain_piece p)) raw (raw_character p (and_right _ _ stays) (rw none refl) refl))
       (ap (λ (b : Bool). character (cond b 0xFFFD p.ch) ∷ []) (ap (λ (x : ℕ). x == 0) same ∙ clean_not_null c clean) ∙ ap (λ (x : ℕ). character x ∷ []) same) refl refl
 
   -- a text in which no reference is read
@@ -153,4 +141,4 @@ raw_end_cuts table end_at name text rest here raw may named is_name e =
     and_from _ _ may (ap (λ (n : Option (List ℕ)). is_end_tag_of n (t.span.text ++ rest)) named ∙ ap (λ (x : List Placed). is_end_tag_of (Some name) (x ++ rest)) t.text_is ∙ end_tag_here name text rest is_name e) in
     cuts_as table end_at here t.span.text text rest (end name ∷ []) (λ there. there.kind ≡ kind.None) t.text_is
     (one table end_at here rest t.span (end name ∷ []) (λ there. there.kind ≡ kind.None)
-    (raw_span table end_at here rest t.span here.kind raw (raw_end ends t.is_tag)) t.tokens_are t.in_profile (ap (λ (x : Standing). x.kind) (t.leads here)))
+    (in_raw table end_at here rest t.span raw (raw_end ends t.is_tag)) t.tokens_are t.in_profile (ap (λ (x : Standing). x.kind) (t.leads here)))

@@ -1,12 +1,10 @@
 -- The law at some lists, with what is written and its tokens in full.
-use Rattle.hlaws.proofs.Names.{ℕ, false, Some, None, List, [], ◌∷◌, ◌++◌, map, refl, codes, Entities, IsTable, HasCore, Forest, none, tree, element, text, Token, start, end, character, eof, AreRead}
+use Rattle.hlaws.proofs.Names.{ℕ, false, Some, None, List, [], ◌∷◌, ◌++◌, map, refl, codes, Entities, IsTable, HasCore, Forest, none, tree, element, text, Token, start, end, character, eof, AreRead, Drop, Keep, core, doctype}
 use Rattle.std.specs.Str.{chars}
 use Rattle.std.specs.Char.{encode_utf8}
 use Rattle.std.specs.List.{IsDistinct}
 use Rattle.names.specs.declared.raw.RawKind.TheVariants as kind
-use Rattle.htext.specs.declared.Bom.TheVariants.{Drop, Keep}
-use Rattle.charref.specs.Reference.{core}
-use Rattle.hnodes.specs.Forest.{comment, doctype}
+use Rattle.hnodes.specs.Forest.{comment}
 use Rattle.hmodes.specs.State as token
 use Rattle.hserialize.specs.declared.escaping.Escaping.TheVariants.{One}
 use Rattle.hlaws.proofs.TokensDocument as documents

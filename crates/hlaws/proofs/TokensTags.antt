@@ -1,11 +1,7 @@
 -- Tags and comments as they are written are spans.
-use Rattle.hlaws.proofs.Names.{list_all-append, ◌≡◌, ℕ, zero, suc, ◌<◌, Bool, true, false, not, cond, ◌&&◌, ◌||◌, nat_eq, Some, None, List, [], ◌∷◌, ◌++◌, drop, refl, sym, ◌∙◌, ap, subst, arith, append_assoc, and_parts, and_from, eqb-true, nat_tests, encode_ascii, ◌==◌, codes, encode_utf8_all, to_ascii_lowercase, list_all, all-characters, all_weaker, first_is, Placed, characters, place, begins, all, is_letter, is_space, without_null, name_bytes, Entities, Piece, IsTable, named_piece, Attribute, plain_piece, parts_text, ends_name, ends_attribute_name, is_known, attributes_after, is_plain_name_byte}
-use Rattle.std.specs.List.{flat_map}
-use Rattle.names.specs.Placed.{error_if, stops}
-use Rattle.htag.specs.Value.{plain, pieces_text, AreValue, value_bytes}
+use Rattle.hlaws.proofs.Names.{list_all-append, ◌≡◌, ℕ, zero, suc, ◌<◌, Bool, true, false, not, cond, ◌&&◌, ◌||◌, nat_eq, Some, None, List, [], ◌∷◌, ◌++◌, drop, refl, sym, ◌∙◌, ap, subst, arith, append_assoc, and_parts, and_from, eqb-true, nat_tests, encode_ascii, ◌==◌, codes, encode_utf8_all, to_ascii_lowercase, list_all, all-characters, all_weaker, first_is, Placed, characters, place, begins, all, is_letter, is_space, without_null, name_bytes, Entities, Piece, IsTable, named_piece, Attribute, plain_piece, parts_text, ends_name, ends_attribute_name, is_known, attributes_after, is_plain_name_byte, flat_map, error_if, stops, plain, pieces_text, AreValue, value_bytes, Part, attribute_part, value_errors, is_sign, space, quoted, AreParts, kept_attribute}
 use Rattle.htag.specs.Value as piece
 use Rattle.names.specs.declared.error.ErrorCode.TheVariants.{MissingWhitespaceBetweenAttributes}
-use Rattle.htag.specs.Tag.{Part, attribute_part, value_errors, is_sign, space, quoted, AreParts, kept_attribute}
 use Rattle.hserialize.specs.declared.escaping.Setting.TheVariants as setting
 use Rattle.hlaws.proofs.TokensText.{is_written_ascii, tail_of}
 use Rattle.hlaws.proofs.TokensCore.{Way, by_name, by_itself, AreWritten, entry_of}

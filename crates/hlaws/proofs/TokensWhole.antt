@@ -1,24 +1,18 @@
 -- Plain lists are read as their own tokens, in every context.
-use Rattle.hlaws.proofs.Names.{are_plain_attributes, arith, ◌≡◌, ℕ, Bool, true, false, not, cond, nat_lt, Option, Some, None, List, [], ◌∷◌, ◌++◌, map, length, refl, sym, ◌∙◌, ap, subst, append-nil, append_assoc, and_parts, false≢true, map-append, scalars-chars, codes, chars, IsUtf8, flat_map, Placed, RawKind, characters, raw_kind, is_void, tag_named, Entities, IsTable, HasCore, Attribute, What, Forest, none, tree, Eof, Standing, at_start, standing_after, has_references, may_end, texts, Token, start, end, comment, character, eof, Content, Role, Escaping, escaped, written_char, row, takes_role, takes_comments, Inside, inside_element, in_context_of, is_form_element, are_content, are_content_if, is_plain_comment, is_among_texts, is_clean, begins_with_text, has_part, plain_tokens, start_tag_text, end_tag_text, AreTexts, AreRead, PlainTokens, decoded_text, token_taken}
-use Rattle.std.proofs.lemmas.Str.{chars-nil, IsUtf8-nil}
+use Rattle.hlaws.proofs.Names.{are_plain_attributes, arith, ◌≡◌, ℕ, Bool, true, false, not, cond, nat_lt, Option, Some, None, List, [], ◌∷◌, ◌++◌, map, length, refl, sym, ◌∙◌, ap, subst, append-nil, append_assoc, and_parts, false≢true, map-append, scalars-chars, codes, chars, IsUtf8, flat_map, Placed, RawKind, characters, raw_kind, is_void, tag_named, Entities, IsTable, HasCore, Attribute, Forest, none, tree, Eof, Standing, at_start, standing_after, has_references, may_end, texts, Token, start, end, comment, character, eof, Content, Role, Escaping, escaped, written_char, row, takes_role, takes_comments, Inside, inside_element, in_context_of, is_form_element, are_content, are_content_if, is_plain_comment, is_among_texts, is_clean, has_part, plain_tokens, start_tag_text, end_tag_text, AreTexts, AreRead, PlainTokens, decoded_text, token_taken, chars-nil, IsUtf8-nil, Bom, Keep, end_errors, Texts, has_no_references, element_text, written_among, AreUtf8, is_raw, texts_in}
 use Rattle.names.specs.declared.raw.RawKind.TheVariants as kind
 use Rattle.hnodes.specs.Forest as forest
-use Rattle.htext.specs.declared.Bom.{Bom}
-use Rattle.htext.specs.declared.Bom.TheVariants.{Keep}
-use Rattle.htoken.specs.Raw.{end_errors}
 use Rattle.htoken.specs.Tokens as cut
 use Rattle.hserialize.specs.declared.content.Content.TheVariants as content
-use Rattle.hserialize.specs.declared.content.Texts.{Texts}
 use Rattle.hserialize.specs.declared.content.Texts.TheVariants as allowed
 use Rattle.hserialize.specs.declared.escaping.Setting.TheVariants as setting
-use Rattle.hserialize.specs.Written.{has_no_references, element_text, written_among}
-use Rattle.hlaws.specs.ComesBack.{AreUtf8}
+use Rattle.hserialize.proofs.Documents.{is_one_text, one_text as is_one}
 use Rattle.hlaws.proofs.Content.{three, four}
 use Rattle.hlaws.proofs.TokensText.{Spells, spells-append, spells_text, spells_utf8, clean_text, text_characters, begins_marked, no_part}
 use Rattle.hlaws.proofs.TokensCore.{escaped_as}
 use Rattle.hlaws.proofs.TokensCuts.{split, Cuts, Same, join, cuts_as, text_cuts}
 use Rattle.hlaws.proofs.TokensMarks.{IsElementName, after_start}
-use Rattle.hlaws.proofs.TokensRaw.{is_raw, raw_cuts, raw_end_cuts, pushed_on, pushed, no_end_in, no_end_of_none, level_zero}
+use Rattle.hlaws.proofs.TokensRaw.{raw_cuts, raw_end_cuts, pushed_on, pushed, no_end_in, no_end_of_none, level_zero}
 use Rattle.hlaws.proofs.TokensPlain.{fits, fits_context, all_contexts, IsKnownName, known_name, InData, Reads, led, told, reads-nil, reads-append, StartTag, a_start_tag, end_mapped, end_tag_reads, start_tag_reads, text_reads, comment_reads}
 
 -- ONE TEXT AT MOST
@@ -70,29 +64,20 @@ pub record OneText (how : Escaping) (which : Texts) (l : Forest (List ℕ)) : Ty
   pub text_is : written_among how false l ≡ escaped how setting.Text t
   pub tokens_are : plain_tokens texts l ≡ map (λ c. character c) (chars t)
 
--- only texts are there
-begins_so : (m : ℕ) (inside : Inside) (w : What (List ℕ)) (kids rest : Forest (List ℕ)) → holds_text inside.content ≡ true → are_content inside (tree m w kids rest) ≡ true → begins_with_text (tree m w kids rest) ≡ true
-begins_so m inside (forest.element name attrs) kids rest h p =
-    let token_taken : takes_role inside.content (row (tag_named name)).0 ≡ true = (four _ _ _ _ (three inside m (forest.element name attrs) kids rest p).node).0 in
-    absurd (false≢true (sym (no_role inside.content (row (tag_named name)).0 h) ∙ token_taken))
-begins_so m inside (forest.text t) kids rest h p = refl
-begins_so m inside (forest.comment t) kids rest h p =
-    absurd (false≢true (sym (no_comment inside.content h) ∙ (and_parts (takes_comments inside.content) (is_plain_comment t) (three inside m (forest.comment t) kids rest p).node).0))
-begins_so m inside _ kids rest h p = absurd (false≢true p)
-
 one_text : (how : Escaping) (inside : Inside) (l : Forest (List ℕ)) → holds_text inside.content ≡ true → is_among_texts inside.texts [] ≡ true → AreTexts l → are_content inside l ≡ true → OneText how inside.texts l
-one_text how inside none h empty u p = record {
-  t = [];
-  utf8 = IsUtf8-nil;
-  clean = refl;
-  among = empty;
-  raw_is = refl;
-  text_is = ap (flat_map (written_char how setting.Text)) (sym chars-nil);
-  tokens_are = ap (map (λ c. character c)) (sym chars-nil);
-}
-one_text how inside (tree n (forest.text t) kids none) h empty u p =
-    let node = (three inside n (forest.text t) kids none p).node in
-    record {
+one_text how inside l h empty u p = go l u (sym (is_one inside (λ r. no_role inside.content r h) (no_comment inside.content h) l) ∙ p)
+  where
+    go : (l : Forest (List ℕ)) → AreTexts l → is_one_text inside.texts l ≡ true → OneText how inside.texts l
+    go none u e = record {
+      t = [];
+      utf8 = IsUtf8-nil;
+      clean = refl;
+      among = empty;
+      raw_is = refl;
+      text_is = ap (flat_map (written_char how setting.Text)) (sym chars-nil);
+      tokens_are = ap (map (λ c. character c)) (sym chars-nil);
+    }
+    go (tree n (forest.text t) none none) u e = record {
       t = t;
       utf8 = u.0;
       clean = grind arith;
@@ -101,14 +86,8 @@ one_text how inside (tree n (forest.text t) kids none) h empty u p =
       text_is = append-nil (escaped how setting.Text t);
       tokens_are = append-nil (map (λ c. character c) (chars t));
     }
-one_text how inside (tree n (forest.text t) kids (tree m w ks rest)) h empty u p =
-    let k = three inside n (forest.text t) kids (tree m w ks rest) p in
-    let node = k.node in
-    let other : begins_with_text (tree m w ks rest) ≡ false = grind arith in
-    absurd (false≢true (sym other ∙ begins_so m inside w ks rest h k.others))
-one_text how inside (tree n (forest.element name attrs) kids rest) h empty u p = absurd (false≢true (begins_so n inside (forest.element name attrs) kids rest h p))
-one_text how inside (tree n (forest.comment t) kids rest) h empty u p = absurd (false≢true (begins_so n inside (forest.comment t) kids rest h p))
-one_text how inside _ h empty u p = absurd (false≢true p)
+    go (tree n (forest.text t) kids rest) u e = absurd (grind arith)
+    go _ u e = absurd (false≢true e)
 
 -- RAW ELEMENTS
 
@@ -117,6 +96,15 @@ pub record EndsRaw (name : List ℕ) (there : Standing) : Type 0 where
   pub raw : is_raw there.kind ≡ true
   pub may : may_end there.kind there.front ≡ true
   pub named : there.name ≡ Some name
+
+-- what may be in text without references does not end it
+ends_raw : (k : RawKind) (t : List ℕ) → is_raw k ≡ true → has_references k ≡ false → is_among_texts (texts_in (raw_content k)) t ≡ true → IsUtf8 t
+    → (not (has_part (codes "</") t) ≡ true) × ((text : List Placed) → characters text ≡ chars t → may_end k (pushed text []) ≡ true)
+ends_raw kind.Rawtext t r n among u = (among, λ text e. refl)
+ends_raw kind.Script t r n among u =
+    let both = and_parts (not (has_part (codes "</") t)) (not (has_part (codes "<!--") t)) among in
+    (both.0, λ text e. ap (λ (n : ℕ). nat_lt n 2) (level_zero text [] (chars t) e refl (no_part (codes "<!--") t refl u both.1)))
+ends_raw _ t r n among u = absurd cc
 
 module _ (table : Entities) (is_table : IsTable table) (core : HasCore table) (how : Escaping) where
   -- an element, given how its text is read
@@ -190,25 +178,15 @@ module _ (table : Entities) (is_table : IsTable table) (core : HasCore table) (h
       let e = raw_fits kind.Rcdata (row (tag_named name)).1 v refl fit in
       let within : Inside = inside_element (tag_named name) inside in
       subst (λ (w : Bool). Element name attrs kids kind.Rcdata w) (sym e.1) (rcdata_inner name kids attrs within.texts is_kind is_name s (one_text how within kids (rw e.0 refl) (rw e.0 refl) u (h refl)))
-  an_element name attrs kids inside kind.Rawtext v is_kind fit is_name s u h kids_read =
-      let e = raw_fits kind.Rawtext (row (tag_named name)).1 v refl fit in
-      let within : Inside = inside_element (tag_named name) inside in
-      let texts_are : within.texts ≡ allowed.Raw = rw e.0 refl in
-      let o = one_text how within kids (rw e.0 refl) (ap (λ (x : Texts). is_among_texts x []) texts_are) u (h refl) in
-      let among : is_among_texts allowed.Raw o.t ≡ true = ap (λ (x : Texts). is_among_texts x o.t) (sym texts_are) ∙ o.among in
-      subst (λ (w : Bool). Element name attrs kids kind.Rawtext w) (sym e.1)
-      (raw_inner name kids attrs within.texts (ap is_raw is_kind) (ap has_references is_kind) is_name s o among (λ text e. ap (λ (k : RawKind). may_end k (pushed text [])) is_kind))
-  an_element name attrs kids inside kind.Script v is_kind fit is_name s u h kids_read =
-      let e = raw_fits kind.Script (row (tag_named name)).1 v refl fit in
-      let within : Inside = inside_element (tag_named name) inside in
-      let texts_are : within.texts ≡ allowed.Script = rw e.0 refl in
-      let o = one_text how within kids (rw e.0 refl) (ap (λ (x : Texts). is_among_texts x []) texts_are) u (h refl) in
-      let among : is_among_texts allowed.Script o.t ≡ true = ap (λ (x : Texts). is_among_texts x o.t) (sym texts_are) ∙ o.among in
-      let both = and_parts (not (has_part (codes "</") o.t)) (not (has_part (codes "<!--") o.t)) among in
-      subst (λ (w : Bool). Element name attrs kids kind.Script w) (sym e.1)
-      (raw_inner name kids attrs within.texts (ap is_raw is_kind) (ap has_references is_kind) is_name s o both.0
-      (λ text e. ap (λ (k : RawKind). may_end k (pushed text [])) is_kind ∙ ap (λ (n : ℕ). nat_lt n 2) (level_zero text [] (chars o.t) e refl (no_part (codes "<!--") o.t refl o.utf8 both.1))))
   an_element name attrs kids inside kind.Plaintext v is_kind fit is_name s u h kids_read = absurd (false≢true fit)
+  an_element name attrs kids inside k v is_kind fit is_name s u h kids_read =
+      let e = raw_fits k (row (tag_named name)).1 v refl fit in
+      let within : Inside = inside_element (tag_named name) inside in
+      let texts_are : within.texts ≡ texts_in (raw_content k) = rw e.0 refl in
+      let o = one_text how within kids (rw e.0 refl) (ap (λ (x : Texts). is_among_texts x []) texts_are) u (h refl) in
+      let ends = ends_raw k o.t refl refl (ap (λ (x : Texts). is_among_texts x o.t) (sym texts_are) ∙ o.among) o.utf8 in
+      subst (λ (w : Bool). Element name attrs kids k w) (sym e.1)
+      (raw_inner name kids attrs within.texts (ap is_raw is_kind) (ap has_references is_kind) is_name s o ends.0 (λ text e. ap (λ (k : RawKind). may_end k (pushed text [])) is_kind ∙ ends.1 text e))
 
   again : (v : Bool) (name : List ℕ) (attrs : List (Attribute (List ℕ))) (kids rest : List (Token (List ℕ)))
       → (start name attrs false ∷ cond v [] (kids ++ end name ∷ [])) ++ rest ≡ start name attrs false ∷ cond v rest (kids ++ end name ∷ rest)

@@ -1,14 +1,11 @@
 -- Settled spans are the first of each text that begins so, whether it is refused or not.
-use Rattle.hlaws.proofs.Names.{◌≡◌, ℕ, true, false, List, [], ◌∷◌, ◌++◌, map, sym, refl, ap, ◌∙◌, subst, append_assoc, append-nil, map-append, flat_map-append, ParseError, Placed, RawKind, character_of, read_len, Entities, Tok, Span, Eof, Standing, at_start, next, standing_after, start_kind, IsSpan, spans_text, Cut, has_refused, Tokens, eof_of, input_text, manner, policy, start_of, accepted, refused_tag}
+use Rattle.hlaws.proofs.Names.{◌≡◌, ℕ, true, false, List, [], ◌∷◌, ◌++◌, map, sym, refl, ap, ◌∙◌, subst, append_assoc, append-nil, map-append, flat_map-append, ParseError, Placed, RawKind, character_of, read_len, Entities, Tok, Span, Eof, Standing, at_start, next, standing_after, start_kind, IsSpan, spans_text, Cut, has_refused, Tokens, eof_of, input_text, manner, policy, start_of, accepted, refused_tag, tokens_of, refused_parts, one_is_front, first, Manner, how_of, settled_in, first_state}
 use Rattle.htext.proofs.Texts.{goes_on}
-use Rattle.htoken.specs.Tokens.{tokens_of}
 use Rattle.htoken.specs.Settled.{AreSettled}
-use Rattle.htoken.proofs.OneCut.{refused_parts, one_is_front, first, goes_on as further}
+use Rattle.htoken.proofs.OneCut.{goes_on as further}
 use Rattle.htoken.proofs.OneSpan.{some_span}
 use Rattle.hparse.specs.Answer.{accepted as taken}
-use Rattle.hparse.specs.Input.{Manner, how_of, settled_in}
 use Rattle.hparse.specs.Into.{as_document}
-use Rattle.hparse.specs.Parse.{first_state}
 use Rattle.hparse.specs.Unrefused.{AreSettledIn, settled_text}
 use Rattle.hparse.proofs.Unrefused.{leads_on}
 use Rattle.hlaws.specs.Unrefused.{FrontsOfAnswered, FrontsOfParsed, RulesRefuse, ProfileRefuses}

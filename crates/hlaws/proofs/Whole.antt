@@ -1,7 +1,5 @@
 -- The tokens of a plain list of trees build it under the current node.
-use Rattle.hlaws.proofs.Names.{◌≡◌, ℕ, suc, ◌+◌, ◌<◌, ◌≤◌, Bool, true, false, not, ◌&&◌, ◌||◌, List, [], ◌∷◌, ◌++◌, length, map, Option, Some, None, refl, sym, ◌∙◌, ap, subst, arith, and_parts, or_parts, and_right, eq-eqb, lt-leb, false≢true, not-true, nat_le, encode_utf8, encode_utf8_all, chars, ◌==◌, list_all, Attribute, What, element, text, Forest, none, tree, size, times, graft_last, join, if_text, text_before, LastIn, OpenNode, in_scope, stops_in_scope, stops_item, EntryOf, Listed, marker, entry, with_room, without_entry, entry_of, find_entry, cleared, Placed, is_space, is_void, is_heading, has_implied_end, stops_button_scope, Naming, Goes, is, is_table_context, is_body_context, is_row_context, is_fostering, Family, Start, End, Mode, InCaption, InCell, Text, InTable, InTableText, InTableBody, InRow, InColumnGroup, family_of, rule_of, perform, void, raw, void_in_text, Token, start, end, comment, character, PlacedToken, Control, State, Done, kind_of, reset_mode, Rule, step_begun, ends, goes_again, Step, goes, Steps, and, Content, Role, row, takes_role, takes_comments, texts_in, Inside, inside_element, is_nested, is_a, is_button, is_form_element, drops_line_feed, inserts_marker, is_flow_mode, fits_mode, fits_current, holds_list_items, is_dl, takes_space, numbered_forest, under, Thinned, same, kept, lost, EntriesOpen, EntriesLower, plain_tokens}
-use Rattle.std.proofs.lemmas.List.{append-nil, append_assoc}
-use Rattle.std.specs.Prelude.{unwrap_or}
+use Rattle.hlaws.proofs.Names.{◌≡◌, ℕ, suc, ◌+◌, ◌<◌, ◌≤◌, Bool, true, false, not, ◌&&◌, ◌||◌, List, [], ◌∷◌, ◌++◌, length, map, Option, Some, None, refl, sym, ◌∙◌, ap, subst, arith, and_parts, or_parts, and_right, eq-eqb, lt-leb, false≢true, not-true, nat_le, encode_utf8, encode_utf8_all, chars, ◌==◌, list_all, Attribute, What, element, text, Forest, none, tree, size, times, graft_last, join, if_text, text_before, LastIn, OpenNode, in_scope, stops_in_scope, stops_item, EntryOf, Listed, marker, entry, with_room, without_entry, entry_of, find_entry, cleared, Placed, is_space, is_void, is_heading, has_implied_end, stops_button_scope, Naming, Goes, is, is_table_context, is_body_context, is_row_context, is_fostering, Family, Start, End, Mode, InCaption, InCell, Text, InTable, InTableText, InTableBody, InRow, InColumnGroup, family_of, rule_of, perform, void, raw, void_in_text, Token, start, end, comment, character, PlacedToken, Control, State, Done, kind_of, reset_mode, Rule, step_begun, ends, goes_again, Step, goes, Steps, and, Content, Role, row, takes_role, takes_comments, texts_in, Inside, inside_element, is_nested, is_a, is_button, is_form_element, drops_line_feed, inserts_marker, is_flow_mode, fits_mode, fits_current, holds_list_items, is_dl, takes_space, numbered_forest, under, Thinned, same, kept, lost, EntriesOpen, EntriesLower, plain_tokens, append-nil, append_assoc, unwrap_or, content_within, reconstructed, block, close_block, end_item, Do, closes_p, is_character_token, ActsAs, depth, AllLower, list_all-map, inl}
 use Rattle.hnodes.specs.Forest as forest
 use Rattle.hopen.specs.declared.scope.Scope.TheVariants as scope
 use Rattle.names.specs.declared.tag.Tag.TheVariants as tag
@@ -9,12 +7,7 @@ use Rattle.hmodes.specs.declared.family.Family.TheVariants as family
 use Rattle.hmodes.specs.Step as step
 use Rattle.hserialize.specs.declared.content.Content.TheVariants as content
 use Rattle.hserialize.specs.declared.content.Role.TheVariants as role
-use Rattle.hserialize.specs.Plain.{content_within}
-use Rattle.hadopt.specs.Reconstructs.{reconstructed}
-use Rattle.hmodes.specs.Body.{block, close_block, end_item}
-use Rattle.hmodes.specs.Words.{Do}
-use Rattle.hlaws.specs.Building.{closes_p, is_character_token, ActsAs, depth, AllLower}
-use Rattle.hlaws.proofs.Growing.{graft-new, under-none, under-new, once-grown, free-grown, once-new, rest-grown, text_before-new, text_before-leaf}
+use Rattle.hlaws.proofs.Growing.{graft-new, under-none, under-new, once-grown, free-grown, once-new, rest-grown, times-numbered, text_before-new, text_before-leaf}
 use Rattle.hlaws.proofs.Thinned.{then, thinned-room, open-thinned, open-pushed, lower-thinned, entries-more, no-entry}
 use Rattle.hlaws.proofs.Classes.{Profile, profile, plain_profile, around, class_profile, classed, void_empty, is_p}
 use Rattle.hlaws.proofs.Content.{home, has_home, stands_in, no_nowhere, phrasing_mode, parts_mode_is, rows_mode_is, cells_mode_is, columns_mode_is, comment_rule, around_fits, nested_a, nested_button, nested_form, marker_stops, list_stops, dl_stops}
@@ -22,7 +15,6 @@ use Rattle.hlaws.proofs.Rules as rules
 use Rattle.hlaws.proofs.Rules.{IsFlowRule, by_start, by_end, state, node}
 use Rattle.hlaws.proofs.TokenLists.{AreTokens, first, parted, after, ended, IsText, begins_text}
 use Rattle.hlaws.proofs.TokensText.{is_clean_char}
-use Rattle.std.proofs.lemmas.List.Folds.{list_all-map}
 
 -- WHAT IS USED OF A KIND OF NAMES
 
@@ -67,6 +59,28 @@ keeps-all c = record { mode = refl; head = refl; form = refl; quirks = refl }
 
 abbrev pub begun_control : Control → Control
 begun_control c = record c { drop_lf = false; acknowledged = false }
+
+begun_keeps : (c : Control) → Keeps c (begun_control c)
+begun_keeps c = record { mode = refl; head = refl; form = refl; quirks = refl }
+
+-- what characters make of what was read before them
+abbrev all_read : {A : Type 0} → (A → Placed → A) → A → List Placed → A
+all_read next a [] = a
+all_read next a (p ∷ ps) = all_read next (next a p) ps
+
+abbrev then_char : List ℕ → Placed → List ℕ
+then_char t p = t ++ encode_utf8 p.ch
+
+abbrev then_placed : List Placed → Placed → List Placed
+then_placed ps p = ps ++ p ∷ []
+
+text_read : (t : List ℕ) (ps : List Placed) → all_read then_char t ps ≡ t ++ encode_utf8_all (map (λ p. p.ch) ps)
+text_read t [] = sym (append-nil t)
+text_read t (p ∷ ps) = text_read (t ++ encode_utf8 p.ch) ps ∙ append_assoc t (encode_utf8 p.ch) (encode_utf8_all (map (λ p. p.ch) ps))
+
+placed_read : (qs ps : List Placed) → all_read then_placed qs ps ≡ qs ++ ps
+placed_read qs [] = sym (append-nil qs)
+placed_read qs (p ∷ ps) = placed_read (qs ++ p ∷ []) ps ∙ append_assoc qs (p ∷ []) ps
 
 -- which texts are in content: white space in the parts of a table, where it may be
 abbrev pub TextIn : Content → (space : Bool) → List ℕ → Type 0
@@ -206,150 +220,40 @@ module _ {N : Type 0} (n : Naming N) (laws : NameLaws n) (z : State N) where
 
   -- TEXTS
 
-  -- what the characters of a text build, where each goes in by one rule
-  pub record CharsBuilt (made : ℕ) (f : Forest N) (d : OpenNode N) (up : List (OpenNode N)) (items : List (Listed N)) (c : Control) (s : State N) (ts : List (PlacedToken N)) : Type 0 where
-    pub control' : Control
-    pub steps : Steps n ts s (Goes (state z made f (d ∷ up) items control'))
-    pub keeps : Keeps c control'
-    pub saved : control'.saved ≡ c.saved
-    pub no_drop : control'.drop_lf ≡ false
+  -- characters, each of which leads from what was read before it to that and itself
+  chars_read : {A : Type 0} (ok : ℕ → Bool) (next : A → Placed → A) (S : A → State N) → ((a : A) (p : Placed) → ok p.ch ≡ true → Step n p.at (character p.ch) (S a) (Goes (S (next a p))))
+      → (a : A) (chs : List ℕ) (ts : List (PlacedToken N)) → list_all ok chs ≡ true → AreTokens ts (map (λ ch. character ch) chs)
+      → (ps : List Placed) × (map (λ p. p.ch) ps ≡ chs) × Steps n ts (S a) (Goes (S (all_read next a ps)))
+  chars_read ok next S each a [] [] oks h = ([], refl, step.none)
+  chars_read ok next S each a [] (t ∷ ts) oks h = absurd cc
+  chars_read ok next S each a (ch ∷ chs) ts oks h =
+      let p = first ts (character ch) (map (λ ch. character ch) chs) h in
+      let both = and_parts (ok ch) (list_all ok chs) oks in
+      let new : Placed = record { ch = ch; at = p.at } in
+      let k = chars_read ok next S each (next a new) chs p.others both.1 p.rest in
+      (new ∷ k.0, ap (λ l. ch ∷ l) k.1, subst (λ (us : List (PlacedToken N)). Steps n us (S a) (Goes (S (all_read next (next a new) k.0)))) (sym p.is) (and (each a new both.0) k.2))
 
-  module _ (d : OpenNode N) (up : List (OpenNode N)) (items : List (Listed N)) (m : Mode) (ok : ℕ → Bool) (puts : rules.Puts n z d up items m ok) where
-    -- one character goes in, and then the others
-    then_chars : (made : ℕ) (f : Forest N) (c : Control) (at ch : ℕ) (s s1 : State N) (ts others : List (PlacedToken N)) → ts ≡ record { token = character ch; at = at } ∷ others → (s.control.drop_lf && ch == 10) ≡ false
-        → Rule n at (character ch) (step_begun s) ≡ Done s1 → CharsBuilt made f d up items (begun_control c) s1 others → CharsBuilt made f d up items c s ts
-    then_chars made f c at ch s s1 ts others is safe rule k = record {
-      control' = k.control';
-      steps = subst (λ (us : List (PlacedToken N)). Steps n us s (Goes (state z made f (d ∷ up) items k.control'))) (sym is) (and (char_step at ch s s1 safe rule) k.steps);
-      keeps = record { mode = k.keeps.mode; head = k.keeps.head; form = k.keeps.form; quirks = k.keeps.quirks };
-      saved = k.saved;
-      no_drop = k.no_drop;
-    }
-
-    chars_built : (made k : ℕ) (g : Forest N) (once : times d.node g ≡ 1) (absent : times k g ≡ 0) (chs t : List ℕ) (c : Control) (ts : List (PlacedToken N)) → c.mode ≡ m → c.drop_lf ≡ false → list_all ok chs ≡ true
-        → AreTokens ts (map (λ ch. character ch) chs)
-        → CharsBuilt made (under d.node (tree k (text (t ++ encode_utf8_all chs)) none none) g) d up items c (state z made (under d.node (tree k (text t) none none) g) (d ∷ up) items c) ts
-    chars_built made k g once absent [] t c [] is drop oks h = record {
-      control' = c;
-      steps = subst (λ (u : List ℕ). Steps n [] (state z made (under d.node (tree k (text t) none none) g) (d ∷ up) items c) (Goes (state z made (under d.node (tree k (text u) none none) g) (d ∷ up) items c))) (sym (append-nil t)) step.none;
-      keeps = keeps-all c;
-      saved = refl;
-      no_drop = drop;
-    }
-    chars_built made k g once absent [] t c (u ∷ us) is drop oks h = absurd cc
-    chars_built made k g once absent (ch ∷ chs) t c ts is drop oks h =
-        let p = first ts (character ch) (map (λ ch. character ch) chs) h in
-        let both = and_parts (ok ch) (list_all ok chs) oks in
-        let s : State N = state z made (under d.node (tree k (text t) none none) g) (d ∷ up) items c in
-        let s1 : State N = state z made (under d.node (tree k (text (t ++ encode_utf8 ch)) none none) g) (d ∷ up) items (begun_control c) in
-        let others = chars_built made k g once absent chs (t ++ encode_utf8 ch) (begun_control c) p.others is refl both.1 p.rest in
-        then_chars made (under d.node (tree k (text (t ++ encode_utf8_all (ch ∷ chs))) none none) g) c p.at ch s s1 ts p.others p.is (rw drop refl)
-        (puts p.at ch made (under d.node (tree k (text t) none none) g) (begun_control c) s1 is both.0 (rules.put_next n z d up items p.at ch made k t g (begun_control c) once absent))
-        (subst (λ (u : List ℕ). CharsBuilt made (under d.node (tree k (text u) none none) g) d up items (begun_control c) s1 p.others) (append_assoc t (encode_utf8 ch) (encode_utf8_all chs)) others)
-
-    pub text_built : (made : ℕ) (f : Forest N) (once : times d.node f ≡ 1) (absent : times made f ≡ 0) (t : List ℕ) (is : IsText t) (c : Control) (ts : List (PlacedToken N)) → c.mode ≡ m → (c.drop_lf && is.one == 10) ≡ false → list_all ok (is.one ∷ is.more) ≡ true
-        → text_before (LastIn d.node) f ≡ None → made < z.site.nodes.limit
-        → AreTokens ts (map (λ ch. character ch) (chars t))
-        → CharsBuilt (made + 1) (under d.node (tree made (text t) none none) f) d up items c (state z made f (d ∷ up) items c) ts
-    text_built made f once absent t is c ts mode safe oks none_before room h =
-        let p = first ts (character is.one) (map (λ ch. character ch) is.more) (h ∙ ap (map (λ ch. character ch)) is.mapped) in
-        let both = and_parts (ok is.one) (list_all ok is.more) oks in
-        let s : State N = state z made f (d ∷ up) items c in
-        let s1 : State N = state z (made + 1) (under d.node (tree made (text (encode_utf8 is.one)) none none) f) (d ∷ up) items (begun_control c) in
-        let others = chars_built (made + 1) made f once absent is.more (encode_utf8 is.one) (begun_control c) p.others mode refl both.1 p.rest in
-        then_chars (made + 1) (under d.node (tree made (text t) none none) f) c p.at is.one s s1 ts p.others p.is safe
-        (puts p.at is.one made f (begun_control c) s1 mode both.0 (rules.put_first n z d up items p.at is.one made f (begun_control c) none_before absent room))
-        (subst (λ (u : List ℕ). CharsBuilt (made + 1) (under d.node (tree made (text u) none none) f) d up items (begun_control c) s1 p.others) is.bytes others)
-
-  module _ (b : ℕ) (t : List ℕ) (is : IsText t) (made : ℕ) (f : Forest N) (d : OpenNode N) (up : List (OpenNode N)) (items : List (Listed N)) (c : Control) (once : times d.node f ≡ 1) (absent : times made f ≡ 0) (listed : EntriesOpen (d ∷ up) items)
-      (none_before : text_before (LastIn d.node) f ≡ None) (safe : (c.drop_lf && is.one == 10) ≡ false) (room : made < z.site.nodes.limit) where
-    as_node : (ts : List (PlacedToken N)) → CharsBuilt (made + 1) (under d.node (tree made (text t) none none) f) d up items c (state z made f (d ∷ up) items c) ts → NodeBuilt b (text t) none made f d up items c (state z made f (d ∷ up) items c) ts
-    as_node ts k = as_it_stands b (text t) none made f d up items items c k.control' (state z made f (d ∷ up) items c) ts ts refl k.steps same k.keeps k.no_drop
-
-    -- in flow
-    flow_text : (ts : List (PlacedToken N)) → is_flow_mode c.mode ≡ true → AreTokens ts (map (λ ch. character ch) (chars t)) → NodeBuilt b (text t) none made f d up items c (state z made f (d ∷ up) items c) ts
-    flow_text ts flows h = as_node ts (text_built d up items c.mode is_clean_char (rules.flow_puts n z d up items c.mode flows listed) made f once absent t is c ts refl safe is.clean none_before room h)
-
-    -- in a colgroup
-    column_text : (ts : List (PlacedToken N)) → c.mode ≡ InColumnGroup → list_all is_space (is.one ∷ is.more) ≡ true → AreTokens ts (map (λ ch. character ch) (chars t)) → NodeBuilt b (text t) none made f d up items c (state z made f (d ∷ up) items c) ts
-    column_text ts columns spaces h = as_node ts (text_built d up items InColumnGroup is_space (rules.space_puts n z d up items InColumnGroup refl) made f once absent t is c ts columns safe spaces none_before room h)
-
-  -- WHITE SPACE OF TABLES
-
-  record HeldChars (made : ℕ) (f : Forest N) (d : OpenNode N) (up : List (OpenNode N)) (items : List (Listed N)) (c : Control) (chs : List ℕ) (s : State N) (ts : List (PlacedToken N)) : Type 0 where
-    pub acknowledged : Bool
-    pub added : List Placed
-    pub steps : Steps n ts s (Goes (state z made f (d ∷ up) items (record c { drop_lf = false; acknowledged = acknowledged; pending = c.pending ++ added })))
-    pub characters : map (λ p. p.ch) added ≡ chs
-
-  module _ (made : ℕ) (f : Forest N) (d : OpenNode N) (up : List (OpenNode N)) (items : List (Listed N)) where
-    held_chars : (chs : List ℕ) (c : Control) (ts : List (PlacedToken N)) → c.mode ≡ InTableText → c.drop_lf ≡ false → list_all is_space chs ≡ true → AreTokens ts (map (λ ch. character ch) chs)
-        → HeldChars made f d up items c chs (state z made f (d ∷ up) items c) ts
-    held_chars [] c [] m drop spaces h = record {
-      acknowledged = c.acknowledged;
-      added = [];
-      steps = subst (λ (v : Control). Steps n [] (state z made f (d ∷ up) items c) (Goes (state z made f (d ∷ up) items v))) (λ i. record c { drop_lf = drop i; pending = sym (append-nil c.pending) i }) step.none;
-      characters = refl;
-    }
-    held_chars [] c (u ∷ us) m drop spaces h = absurd cc
-    held_chars (ch ∷ chs) c ts m drop spaces h =
-        let both = and_parts (is_space ch) (list_all is_space chs) spaces in
-        let p = first ts (character ch) (map (λ ch. character ch) chs) h in
-        let new : Placed = record { ch = ch; at = p.at } in
-        let c1 : Control = record (begun_control c) { pending = c.pending ++ new ∷ [] } in
-        let s : State N = state z made f (d ∷ up) items c in
-        let s1 : State N = state z made f (d ∷ up) items c1 in
-        let rule : Rule n p.at (character ch) (step_begun s) ≡ Done s1 = rules.held n z p.at made f d up items (begun_control c) ch m both.0 in
-        let one : Step n p.at (character ch) s (Goes s1) = char_step p.at ch s s1 (rw drop refl) rule in
-        let others = held_chars chs c1 p.others m refl both.1 p.rest in
-        record {
-          acknowledged = others.acknowledged;
-          added = new ∷ others.added;
-          steps = subst (λ (us : List (PlacedToken N)). Steps n us s (Goes (state z made f (d ∷ up) items (record c { drop_lf = false; acknowledged = others.acknowledged; pending = c.pending ++ new ∷ others.added })))) (sym p.is)
-              (subst (λ (l : List Placed). Steps n (record { token = character ch; at = p.at } ∷ p.others) s (Goes (state z made f (d ∷ up) items (record c { drop_lf = false; acknowledged = others.acknowledged; pending = l })))) (append_assoc c.pending (new ∷ []) others.added) (and one others.steps));
-          characters = ap (λ l. ch ∷ l) others.characters;
-        }
+  -- a text, where each of its characters goes in by one rule
+  pub text_built : (d : OpenNode N) (up : List (OpenNode N)) (items : List (Listed N)) (m : Mode) (ok : ℕ → Bool) → rules.Puts n z d up items m ok → (made : ℕ) (f : Forest N) → times d.node f ≡ 1 → times made f ≡ 0
+      → (t : List ℕ) (is : IsText t) (c : Control) (ts : List (PlacedToken N)) → c.mode ≡ m → (c.drop_lf && is.one == 10) ≡ false → list_all ok (is.one ∷ is.more) ≡ true → text_before (LastIn d.node) f ≡ None
+      → made < z.site.nodes.limit → AreTokens ts (map (λ ch. character ch) (chars t))
+      → Steps n ts (state z made f (d ∷ up) items c) (Goes (state z (made + 1) (under d.node (tree made (text t) none none) f) (d ∷ up) items (begun_control c)))
+  text_built d up items m ok puts made f once absent t is c ts mode safe oks none_before room h =
+      let p = first ts (character is.one) (map (λ ch. character ch) is.more) (h ∙ ap (map (λ ch. character ch)) is.mapped) in
+      let both = and_parts (ok is.one) (list_all ok is.more) oks in
+      let s : State N = state z made f (d ∷ up) items c in
+      let with_text : List ℕ → State N = λ u. state z (made + 1) (under d.node (tree made (text u) none none) f) (d ∷ up) items (begun_control c) in
+      let one : Step n p.at (character is.one) s (Goes (with_text (encode_utf8 is.one))) =
+      char_step p.at is.one s (with_text (encode_utf8 is.one)) safe (puts p.at is.one made f (begun_control c) (with_text (encode_utf8 is.one)) mode both.0 (rules.put_first n z d up items p.at is.one made f (begun_control c) none_before absent room)) in
+      let k = chars_read ok then_char with_text (λ u q fine. char_step q.at q.ch (with_text u) (with_text (u ++ encode_utf8 q.ch)) refl
+      (puts q.at q.ch (made + 1) (under d.node (tree made (text u) none none) f) (begun_control c) (with_text (u ++ encode_utf8 q.ch)) mode fine (rules.put_next n z d up items q.at q.ch (made + 1) made u f (begun_control c) once absent)))
+      (encode_utf8 is.one) is.more p.others both.1 p.rest in
+      let all : all_read then_char (encode_utf8 is.one) k.0 ≡ t = text_read (encode_utf8 is.one) k.0 ∙ ap (λ l. encode_utf8_all (is.one ∷ l)) k.1 ∙ is.bytes in
+      subst (λ (us : List (PlacedToken N)). Steps n us s (Goes (with_text t))) (sym p.is) (subst (λ (u : List ℕ). Steps n (record { token = character is.one; at = p.at } ∷ p.others) s (Goes (with_text u))) all (and one k.2))
 
   other_kind : (t : Token N) → is_character_token t ≡ false → rules.is_other (kind_of n t) ≡ true
   other_kind (character ch) h = cc
   other_kind _ h = refl
-
-  parts_text : (b : ℕ) (t : List ℕ) (is : IsText t) (made : ℕ) (f : Forest N) (d : OpenNode N) (up : List (OpenNode N)) (items : List (Listed N)) (c : Control) → times d.node f ≡ 1 → times made f ≡ 0
-      → text_before (LastIn d.node) f ≡ None → (c.drop_lf && is.one == 10) ≡ false → made < z.site.nodes.limit → rules.is_parts_mode c.mode ≡ true → is_fostering (n.tag d.name) ≡ true → list_all is_space (is.one ∷ is.more) ≡ true
-      → (ts : List (PlacedToken N)) → AreTokens ts (map (λ ch. character ch) (chars t)) → NodeBuilt b (text t) none made f d up items c (state z made f (d ∷ up) items c) ts
-  parts_text b t is made f d up items c once absent none_before safe room parts fosters spaces ts h =
-      let p = first ts (character is.one) (map (λ ch. character ch) is.more) (h ∙ ap (map (λ ch. character ch)) is.mapped) in
-      let both = and_parts (is_space is.one) (list_all is_space is.more) spaces in
-      let new : Placed = record { ch = is.one; at = p.at } in
-      let c0 : Control = record (begun_control c) { pending = []; saved = c.mode; mode = InTableText } in
-      let c1 : Control = record c0 { pending = new ∷ [] } in
-      let s : State N = state z made f (d ∷ up) items c in
-      let s0 : State N = state z made f (d ∷ up) items c0 in
-      let s1 : State N = state z made f (d ∷ up) items c1 in
-      let waits = rules.first_held n z p.at made f d up items (begun_control c) is.one parts both.0 fosters in
-      let holds : Rule n p.at (character is.one) s0 ≡ Done s1 = rules.held n z p.at made f d up items c0 is.one refl both.0 in
-      let one : Step n p.at (character is.one) s (Goes s1) = goes safe (goes_again waits (ends holds)) in
-      let others = held_chars made f d up items is.more c1 p.others refl refl both.1 p.rest in
-      let c2 : Control = record c1 { acknowledged = others.acknowledged; pending = new ∷ others.added } in
-      let s2 : State N = state z made f (d ∷ up) items c2 in
-      let bytes : encode_utf8_all (map (λ p. p.ch) (new ∷ others.added)) ≡ t = ap (λ l. encode_utf8_all (is.one ∷ l)) others.characters ∙ is.bytes in
-      let c3 : Control = record c2 { pending = []; mode = c2.saved } in
-      let q : List ℕ → State N = λ u. state z (made + 1) (under d.node (tree made (text u) none none) f) (d ∷ up) items c3 in
-      let acts : ActsAs n s2 (q (encode_utf8_all (map (λ p. p.ch) (new ∷ others.added)))) =
-      λ at t o other chain. rules.acts n z d up items at t new others.added made f c2 o (other_kind t other) refl refl (sym (list_all-map is_space (λ (p : Placed). p.ch) (new ∷ others.added)) ∙ ap (λ l. list_all is_space (is.one ∷ l)) others.characters ∙ spaces) once absent room none_before chain in
-      record {
-        built = record {
-          items' = items;
-          control' = c3;
-          reached = s2;
-          steps = subst (λ (us : List (PlacedToken N)). Steps n us s (Goes s2)) (sym p.is) (and one others.steps);
-          acts = subst (λ (u : List ℕ). ActsAs n s2 (q u)) bytes acts;
-          thinned = same;
-          keeps = record { mode = refl; head = refl; form = refl; quirks = refl };
-        };
-        no_drop = refl;
-        exact = λ e. absurd cc;
-      }
 
   -- ELEMENTS
 
@@ -422,64 +326,18 @@ module _ {N : Type 0} (n : Naming N) (laws : NameLaws n) (z : State N) where
               (subst (λ (m : ℕ). ActsAs n k.reached (state z m (under made (numbered_forest (made + 1) kids) (under d.node (tree made (element x attrs) none none) f)) (node made x ∷ d ∷ up) k.items' k.control')) count k.acts);
         }
 
-  -- a text that is read raw
-  module _ (b : ℕ) (x : N) (attrs : List (Attribute N)) (made : ℕ) (f : Forest N) (d : OpenNode N) (up : List (OpenNode N)) (items : List (Listed N)) (c c1 : Control) (s : State N) (once : times d.node f ≡ 1) (fresh : (m : ℕ) → made ≤ m → times m f ≡ 0)
-      (from : ActsAs n s (state z made f (d ∷ up) items c))
-      (opening : (at : ℕ) → Rule n at (start x attrs false) (state z made f (d ∷ up) items (begun_control c)) ≡ Done (state z (made + 1) (under d.node (tree made (element x attrs) none none) f) (node made x ∷ d ∷ up) items c1))
-      (is_text_mode : c1.mode ≡ Text) (is_saved : c1.saved ≡ c.mode) (heads : c1.head ≡ c.head) (forms : c1.form ≡ c.form) (quirky : c1.quirks ≡ c.quirks) where
-    abbrev leaf : Forest N
-    leaf = tree made (element x attrs) none none
-
-    absent : times made f ≡ 0
-    absent = fresh made (omega arith)
-
-    raw_closing : (c2 : Control) → Keeps c1 c2 → c2.saved ≡ c1.saved → Closing x made d up items c items c2
-    raw_closing c2 k saved =
-        closes items c2.saved c2.form same (saved ∙ is_saved) (k.head ∙ heads) (k.form ∙ forms) (k.quirks ∙ quirky) (λ at m g. rules.by_mode n z at (end x) Text (End (family_of (n.tag x))) _ _ (k.mode ∙ is_text_mode) refl refl)
-
-    pub raw_empty : (ts : List (PlacedToken N)) → AreTokens ts (start x attrs false ∷ end x ∷ []) → NodeBuilt b (element x attrs) none made f d up items c s ts
-    raw_empty ts h =
-        let t = tags x attrs none ts h in
-        let s1 : State N = state z (made + 1) (under d.node leaf f) (node made x ∷ d ∷ up) items c1 in
-        finish b x attrs none made f d up items items c c1 s absent from opening ts t
-        (record { items2 = items; control2 = c1; reached = s1; steps = subst (λ (us : List (PlacedToken N)). Steps n us s1 (Goes s1)) (sym (ended t.inner t.inners)) step.none; acts = itself s1 })
-        (raw_closing c1 (keeps-all c1) refl)
-
-    pub raw_text : (b' : ℕ) (u : List ℕ) (is : IsText u) → (c1.drop_lf && is.one == 10) ≡ false → made + 1 < z.site.nodes.limit → (ts : List (PlacedToken N)) → AreTokens ts (start x attrs false ∷ (map (λ ch. character ch) (chars u) ++ []) ++ end x ∷ [])
-        → NodeBuilt b (element x attrs) (tree b' (text u) none none) made f d up items c s ts
-    raw_text b' u is safe room ts h =
-        let kids : Forest N = tree b' (text u) none none in
-        let t = tags x attrs kids ts h in
-        let f1 : Forest N = under d.node leaf f in
-        let once1 : times made f1 ≡ 1 = once-new d.node made (element x attrs) f once absent in
-        let absent1 : times (made + 1) f1 ≡ 0 = free-grown d.node made (made + 1) (tree b (element x attrs) none none) f once (fresh (made + 1) (omega arith)) (omega arith) in
-        let inner = text_built (node made x) (d ∷ up) items Text is_clean_char (rules.raw_puts n z (node made x) (d ∷ up) items) (made + 1) f1 once1 absent1 u is c1 t.inner is_text_mode safe is.clean
-        (text_before-leaf d.node made (element x attrs) f once absent) room
-        (t.inners ∙ append-nil (map (λ ch. character ch) (chars u))) in
-        let s2 : State N = state z (made + 1 + 1) (under made (tree (made + 1) (text u) none none) f1) (node made x ∷ d ∷ up) items inner.control' in
-        let grown : under made (tree (made + 1) (text u) none none) f1 ≡ under d.node (tree made (element x attrs) (tree (made + 1) (text u) none none) none) f = under-new d.node made (element x attrs) none (tree (made + 1) (text u) none none) f absent in
-        let count : made + 1 + 1 ≡ made + (1 + (size kids + 0)) = omega arith in
-        finish b x attrs kids made f d up items items c c1 s absent from opening ts t
-        (record {
-          items2 = items;
-          control2 = inner.control';
-          reached = s2;
-          steps = inner.steps;
-          acts = subst (λ (g : Forest N). ActsAs n s2 (state z (made + (1 + (size kids + 0))) g (node made x ∷ d ∷ up) items inner.control')) grown
-              (subst (λ (m : ℕ). ActsAs n s2 (state z m (under made (tree (made + 1) (text u) none none) f1) (node made x ∷ d ∷ up) items inner.control')) count (itself s2));
-        })
-        (raw_closing inner.control' inner.keeps inner.saved)
-
-  -- THE LAW
-
-  abbrev LawOf : Forest N → Type 0
-  LawOf l = (i : Inside) (made : ℕ) (f : Forest N) (d : OpenNode N) (up : List (OpenNode N)) (items : List (Listed N)) (c : Control) (s : State N) (ts : List (PlacedToken N))
-      → Quiet n z.context i made f d up items c → Good n i l → ActsAs n s (state z made f (d ∷ up) items c) → (begins_text l ≡ true → s ≡ state z made f (d ∷ up) items c)
-      → (begins_text l ≡ true → text_before (LastIn d.node) f ≡ None) → LfSafe c.drop_lf l → made + size l ≤ z.site.nodes.limit → suc (length up) + depth l ≤ z.site.open_nodes.limit
-      → AreTokens ts (plain_tokens n l) → Built l made f d up items c s ts
-
-  marked : {xs ys : List (Listed N)} → Thinned (marker ∷ xs) ys → ys ≡ marker ∷ xs
-  marked same = refl
+  built_none : (made : ℕ) (f : Forest N) (d : OpenNode N) (up : List (OpenNode N)) (items : List (Listed N)) (c : Control) (s : State N) (ts : List (PlacedToken N)) → ActsAs n s (state z made f (d ∷ up) items c) → AreTokens ts [] → Built none made f d up items c s ts
+  built_none made f d up items c s ts from h =
+      let count : made ≡ made + 0 = omega arith in
+      record {
+        items' = items;
+        control' = c;
+        reached = s;
+        steps = subst (λ (us : List (PlacedToken N)). Steps n us s (Goes s)) (sym (ended ts h)) step.none;
+        acts = subst (λ (k : ℕ). ActsAs n s (state z k (under d.node none f) (d ∷ up) items c)) count (subst (λ (v : Forest N). ActsAs n s (state z made v (d ∷ up) items c)) (sym (under-none d.node f)) from);
+        thinned = same;
+        keeps = keeps-all c;
+      }
 
   -- a list in which one text is at most
   pub data OneText (l : Forest N) : Type 0 where
@@ -497,7 +355,49 @@ module _ {N : Type 0} (n : Naming N) (laws : NameLaws n) (z : State N) where
       go (one_text b' u is e) h = absurd (let z = ap begins_text e in cc)
   raw_kids i _ c r g = absurd g
 
-  lf_none : (l : Forest N) → LfSafe false l
+  -- a text that is read raw, or none
+  module _ (made : ℕ) (f : Forest N) (d : OpenNode N) (up : List (OpenNode N)) (items : List (Listed N)) (c : Control) (once : times d.node f ≡ 1) (absent : times made f ≡ 0) (is_text_mode : c.mode ≡ Text) (none_before : text_before (LastIn d.node) f ≡ None) where
+    abbrev Raw : Forest N → Type 0
+    Raw l = (ts : List (PlacedToken N)) → LfSafe c.drop_lf l → made + size l ≤ z.site.nodes.limit → AreTokens ts (plain_tokens n l) → (k : Built l made f d up items c (state z made f (d ∷ up) items c) ts) × (k.control'.saved ≡ c.saved)
+
+    raw_built : (l : Forest N) → OneText l → Raw l
+    unfolding built_none
+    raw_built l (nothing_there e) = subst (λ (v : Forest N). Raw v) (sym e) (λ ts safe room h. (built_none made f d up items c (state z made f (d ∷ up) items c) ts (itself (state z made f (d ∷ up) items c)) h, refl))
+    raw_built l (one_text b u is e) = subst (λ (v : Forest N). Raw v) (sym e) (λ ts safe room h.
+        let s : State N = state z (made + 1) (under d.node (tree made (text u) none none) f) (d ∷ up) items (begun_control c) in
+        let steps = text_built d up items Text is_clean_char (rules.raw_puts n z d up items) made f once absent u is c ts is_text_mode (safe is) is.clean none_before (omega arith) (h ∙ append-nil (map (λ ch. character ch) (chars u))) in
+        (record { items' = items; control' = begun_control c; reached = s; steps = steps; acts = itself s; thinned = same; keeps = begun_keeps c }, refl))
+
+  -- an element that holds one
+  module _ (b : ℕ) (x : N) (attrs : List (Attribute N)) (made : ℕ) (f : Forest N) (d : OpenNode N) (up : List (OpenNode N)) (items : List (Listed N)) (c c1 : Control) (s : State N) (once : times d.node f ≡ 1) (fresh : (m : ℕ) → made ≤ m → times m f ≡ 0)
+      (from : ActsAs n s (state z made f (d ∷ up) items c))
+      (opening : (at : ℕ) → Rule n at (start x attrs false) (state z made f (d ∷ up) items (begun_control c)) ≡ Done (state z (made + 1) (under d.node (tree made (element x attrs) none none) f) (node made x ∷ d ∷ up) items c1))
+      (is_text_mode : c1.mode ≡ Text) (is_saved : c1.saved ≡ c.mode) (heads : c1.head ≡ c.head) (forms : c1.form ≡ c.form) (quirky : c1.quirks ≡ c.quirks) where
+    pub raw_element : (kids : Forest N) → OneText kids → LfSafe c1.drop_lf kids → made + (1 + size kids) ≤ z.site.nodes.limit → (ts : List (PlacedToken N)) → AreTokens ts (start x attrs false ∷ plain_tokens n kids ++ end x ∷ []) → NodeBuilt b (element x attrs) kids made f d up items c s ts
+    unfolding inner_built
+    raw_element kids content safe room ts h =
+        let absent : times made f ≡ 0 = fresh made (omega arith) in
+        let t = tags x attrs kids ts h in
+        let inner = raw_built (made + 1) (under d.node (tree made (element x attrs) none none) f) (node made x) (d ∷ up) items c1 (once-new d.node made (element x attrs) f once absent)
+        (free-grown d.node made (made + 1) (tree b (element x attrs) none none) f once (fresh (made + 1) (omega arith)) (omega arith)) is_text_mode (text_before-leaf d.node made (element x attrs) f once absent)
+        kids content t.inner safe (omega arith) t.inners in
+        let k = inner.0 in
+        finish b x attrs kids made f d up items items c c1 s absent from opening ts t (inner_built b x attrs kids made f d up items items c c1 s absent from opening t.inner k)
+        (closes k.items' k.control'.saved k.control'.form k.thinned (inner.1 ∙ is_saved) (k.keeps.head ∙ heads) (k.keeps.form ∙ forms) (k.keeps.quirks ∙ quirky)
+        (λ at m g. rules.by_mode n z at (end x) Text (End (family_of (n.tag x))) _ _ (k.keeps.mode ∙ is_text_mode) refl refl))
+
+  -- THE LAW
+
+  abbrev LawOf : Forest N → Type 0
+  LawOf l = (i : Inside) (made : ℕ) (f : Forest N) (d : OpenNode N) (up : List (OpenNode N)) (items : List (Listed N)) (c : Control) (s : State N) (ts : List (PlacedToken N))
+      → Quiet n z.context i made f d up items c → Good n i l → ActsAs n s (state z made f (d ∷ up) items c) → (begins_text l ≡ true → s ≡ state z made f (d ∷ up) items c)
+      → (begins_text l ≡ true → text_before (LastIn d.node) f ≡ None) → LfSafe c.drop_lf l → made + size l ≤ z.site.nodes.limit → suc (length up) + depth l ≤ z.site.open_nodes.limit
+      → AreTokens ts (plain_tokens n l) → Built l made f d up items c s ts
+
+  marked : {xs ys : List (Listed N)} → Thinned (marker ∷ xs) ys → ys ≡ marker ∷ xs
+  marked same = refl
+
+  pub lf_none : (l : Forest N) → LfSafe false l
   lf_none (tree b (text t) kids rest) = λ is. refl
   lf_none _ = tt
 
@@ -744,23 +644,12 @@ module _ {N : Type 0} (n : Naming N) (laws : NameLaws n) (z : State N) where
 
       a_raw : (w : Family) (k : Content) (drops : Bool) → profile (n.tag x) ≡ record (plain_profile w role.Phrasing k) { drops = drops } → content_within i.content k ≡ k → takes_comments k ≡ false → ((r : Role) → takes_role k r ≡ false)
           → Opens items (raw_control drops) → (ts : List (PlacedToken N)) → Spells ts → Node ts
-      a_raw w k drops p within no_comments no_elements opens ts h = go (raw_kids j kids (ap takes_comments o ∙ no_comments) (λ r. ap (λ u. takes_role u r) o ∙ no_elements r) g)
+      a_raw w k drops p within no_comments no_elements opens ts h =
+          raw_element b x attrs made f d up items c (raw_control drops) s q.once q.fresh from opens refl refl refl refl refl kids
+          (raw_kids j kids (ap takes_comments o ∙ no_comments) (λ r. ap (λ u. takes_role u r) o ∙ no_elements r) g) (subst (λ (v : Bool). LfSafe v kids) (ap (λ r. r.drops) p) lf) room_in ts h
         where
           o : j.content ≡ k
           o = ap (λ u. content_within i.content u.content) p ∙ within
-
-          safe : LfSafe drops kids
-          safe = subst (λ (v : Bool). LfSafe v kids) (ap (λ r. r.drops) p) lf
-
-          go : OneText kids → Node ts
-          go (nothing_there e) =
-              subst (λ (v : Forest N). NodeBuilt b (element x attrs) v made f d up items c s ts) (sym e)
-              (raw_empty b x attrs made f d up items c (raw_control drops) s q.once q.fresh from opens refl refl refl refl refl ts (subst (λ (v : Forest N). AreTokens ts (start x attrs false ∷ plain_tokens n v ++ end x ∷ [])) e h))
-          go (one_text b' u is e) =
-              let sized : size kids ≡ 1 = ap size e in
-              subst (λ (v : Forest N). NodeBuilt b (element x attrs) v made f d up items c s ts) (sym e)
-              (raw_text b x attrs made f d up items c (raw_control drops) s q.once q.fresh from opens refl refl refl refl refl b' u is (subst (λ (v : Forest N). LfSafe drops v) e safe is) (omega (arith, room_in, sized)) ts
-              (subst (λ (v : Forest N). AreTokens ts (start x attrs false ∷ plain_tokens n v ++ end x ∷ [])) e h))
 
       a_raw_element : (w : Family) (k : Content) → IsFlowRule (Start w) raw → profile (n.tag x) ≡ plain_profile w role.Phrasing k → content_within i.content k ≡ k → takes_comments k ≡ false → ((r : Role) → takes_role k r ≡ false) → (ts : List (PlacedToken N)) → Spells ts → Node ts
       a_raw_element w k rule p within no_comments no_elements = a_raw w k false p within no_comments no_elements (flow_start _ p raw _ (phrasing_flows _ p refl) rule (λ at. simp (full, high, grown) refl))
@@ -939,22 +828,64 @@ module _ {N : Type 0} (n : Naming N) (laws : NameLaws n) (z : State N) where
       → text_before (LastIn d.node) f ≡ None → (c.drop_lf && good.is.one == 10) ≡ false → made < z.site.nodes.limit → (ts : List (PlacedToken N)) → AreTokens ts (map (λ ch. character ch) (chars t)) → NodeBuilt b (text t) none made f d up items c (state z made f (d ∷ up) items c) ts
   text_node i b t made f d up items c q good none_before safe room ts h = go i.content refl
     where
+      s : State N
+      s = state z made f (d ∷ up) items c
+
+      Node : Type 0
+      Node = NodeBuilt b (text t) none made f d up items c s ts
+
       absent_now : times made f ≡ 0
       absent_now = q.fresh made (omega arith)
 
-      in_parts : (m : rules.is_parts_mode c.mode ≡ true) → is_fostering (n.tag d.name) ≡ true → list_all is_space (good.is.one ∷ good.is.more) ≡ true → NodeBuilt b (text t) none made f d up items c (state z made f (d ∷ up) items c) ts
-      in_parts m fosters spaces = parts_text b t good.is made f d up items c q.once absent_now none_before safe room m fosters spaces ts h
+      -- in flow, and in a colgroup
+      put_at_once : (m : Mode) (ok : ℕ → Bool) → rules.Puts n z d up items m ok → c.mode ≡ m → list_all ok (good.is.one ∷ good.is.more) ≡ true → Node
+      put_at_once m ok puts mode oks =
+          as_it_stands b (text t) none made f d up items items c (begun_control c) s ts ts refl (text_built d up items m ok puts made f q.once absent_now t good.is c ts mode safe oks none_before room h) same (begun_keeps c) refl
+
+      -- in the parts of a table, where white space waits
+      in_parts : rules.is_parts_mode c.mode ≡ true → is_fostering (n.tag d.name) ≡ true → list_all is_space (good.is.one ∷ good.is.more) ≡ true → Node
+      in_parts parts fosters spaces =
+          let p = first ts (character good.is.one) (map (λ ch. character ch) good.is.more) (h ∙ ap (map (λ ch. character ch)) good.is.mapped) in
+          let both = and_parts (is_space good.is.one) (list_all is_space good.is.more) spaces in
+          let new : Placed = record { ch = good.is.one; at = p.at } in
+          let c0 : Control = record (begun_control c) { pending = []; saved = c.mode; mode = InTableText } in
+          let held : List Placed → State N = λ l. state z made f (d ∷ up) items (record c0 { pending = l }) in
+          let one : Step n p.at (character good.is.one) s (Goes (held (new ∷ []))) =
+          goes safe (goes_again (rules.first_held n z p.at made f d up items (begun_control c) good.is.one parts both.0 fosters) (ends (rules.held n z p.at made f d up items c0 good.is.one refl both.0))) in
+          let k = chars_read is_space then_placed held (λ l q fine. char_step q.at q.ch (held l) (held (l ++ q ∷ [])) refl (rules.held n z q.at made f d up items (record c0 { pending = l }) q.ch refl fine))
+          (new ∷ []) good.is.more p.others both.1 p.rest in
+          let all : List Placed = new ∷ k.0 in
+          let steps : Steps n ts s (Goes (held all)) = subst (λ (us : List (PlacedToken N)). Steps n us s (Goes (held all))) (sym p.is)
+          (subst (λ (l : List Placed). Steps n (record { token = character good.is.one; at = p.at } ∷ p.others) s (Goes (held l))) (placed_read (new ∷ []) k.0) (and one k.2)) in
+          let bytes : encode_utf8_all (map (λ p. p.ch) all) ≡ t = ap (λ l. encode_utf8_all (good.is.one ∷ l)) k.1 ∙ good.is.bytes in
+          let c3 : Control = record c0 { mode = c.mode } in
+          let put : List ℕ → State N = λ u. state z (made + 1) (under d.node (tree made (text u) none none) f) (d ∷ up) items c3 in
+          let acts : ActsAs n (held all) (put (encode_utf8_all (map (λ p. p.ch) all))) =
+          λ at t o other chain. rules.acts n z d up items at t new k.0 made f (record c0 { pending = all }) o (other_kind t other) refl refl (sym (list_all-map is_space (λ (p : Placed). p.ch) all) ∙ ap (λ l. list_all is_space (good.is.one ∷ l)) k.1 ∙ spaces) q.once absent_now room none_before chain in
+          record {
+            built = record {
+              items' = items;
+              control' = c3;
+              reached = held all;
+              steps = steps;
+              acts = subst (λ (u : List ℕ). ActsAs n (held all) (put u)) bytes acts;
+              thinned = same;
+              keeps = record { mode = refl; head = refl; form = refl; quirks = refl };
+            };
+            no_drop = refl;
+            exact = λ e. absurd cc;
+          }
 
       text_now : (k : Content) → i.content ≡ k → TextIn k (takes_space i.texts) (good.is.one ∷ good.is.more)
       text_now k e = subst (λ (u : Content). TextIn u (takes_space i.texts) (good.is.one ∷ good.is.more)) e good.fits
 
-      go : (k : Content) → i.content ≡ k → NodeBuilt b (text t) none made f d up items c (state z made f (d ∷ up) items c) ts
+      go : (k : Content) → i.content ≡ k → Node
       go content.TableParts e = let z = text_now content.TableParts e in in_parts (ap rules.is_parts_mode (parts_mode_is c.mode (mode_in n q content.TableParts e))) (fosters_at _ _ (and_parts (is_table_context (n.tag d.name)) _ (current_in n q content.TableParts e)).1 z.1) z.0
       go content.TableRows e = let z = text_now content.TableRows e in in_parts (ap rules.is_parts_mode (rows_mode_is c.mode (mode_in n q content.TableRows e))) (fosters_at _ _ (and_parts (is_body_context (n.tag d.name)) _ (current_in n q content.TableRows e)).1 z.1) z.0
       go content.Cells e = let z = text_now content.Cells e in in_parts (ap rules.is_parts_mode (cells_mode_is c.mode (mode_in n q content.Cells e))) (fosters_at _ _ (and_parts (is_row_context (n.tag d.name)) _ (current_in n q content.Cells e)).1 z.1) z.0
-      go content.Columns e = column_text b t good.is made f d up items c q.once absent_now q.listed none_before safe room ts (columns_mode_is c.mode (mode_in n q content.Columns e)) (text_now content.Columns e) h
+      go content.Columns e = put_at_once InColumnGroup is_space (rules.space_puts n z d up items InColumnGroup refl) (columns_mode_is c.mode (mode_in n q content.Columns e)) (text_now content.Columns e)
       go content.Empty e = absurd (text_now content.Empty e)
-      go k e = flow_text b t good.is made f d up items c q.once absent_now q.listed none_before safe room ts (mode_in n q k e) h
+      go k e = put_at_once c.mode is_clean_char (rules.flow_puts n z d up items c.mode (mode_in n q k e) q.listed) refl good.is.clean
 
   node_and_rest : (b : ℕ) (w : What N) (kids rest : Forest N) → LawOf rest → (i : Inside) (made : ℕ) (f : Forest N) (d : OpenNode N) (up : List (OpenNode N)) (items : List (Listed N)) (c : Control) (s : State N) (ts : List (PlacedToken N)) (us : List (Token N))
       → Quiet n z.context i made f d up items c → Good n i rest → (begins_text rest ≡ true → is_text w ≡ false) → (is_text w ≡ false → if_text made (Some w) ≡ None) → made + (1 + (size kids + size rest)) ≤ z.site.nodes.limit → suc (length up) + depth rest ≤ z.site.open_nodes.limit
@@ -967,7 +898,7 @@ module _ {N : Type 0} (n : Naming N) (laws : NameLaws n) (z : State N) where
       let g1 : Forest N = under d.node (numbered_forest made (tree b w kids none)) f in
       let made1 : ℕ = made + (1 + (size kids + 0)) in
       let q1 : Quiet n z.context i made1 g1 d up head.items' head.control' = later i (tree b w kids none) made f d up items head.items' c head.control' q head.thinned head.keeps in
-      let back = law i made1 g1 d up head.items' head.control' head.reached p.back q1 g head.acts (λ e. node_head.exact (other e)) (λ e. text_before-new d.node made w (numbered_forest (made + 1) kids) f q.once (q.fresh made (omega arith)) ∙ unlike (other e))
+      let back = law i made1 g1 d up head.items' head.control' head.reached p.back q1 g head.acts (λ e. node_head.exact (other e)) (λ e. text_before-new d.node made w (numbered_forest (made + 1) kids) f q.once (q.fresh made (omega arith)) (times-numbered d.node (made + 1) kids (inl (let low = q.lower.0 in omega arith))) (times-numbered made (made + 1) kids (inl (omega arith))) ∙ unlike (other e))
       (subst (λ (v : Bool). LfSafe v rest) (sym node_head.no_drop) (lf_none rest)) (omega arith) deep p.backs in
       let count : made1 + size rest ≡ made + (1 + (size kids + size rest)) = omega arith in
       let grown = rest-grown d.node made b w kids rest f in
@@ -983,18 +914,7 @@ module _ {N : Type 0} (n : Naming N) (laws : NameLaws n) (z : State N) where
       }
 
   pub builds : (l : Forest N) → LawOf l
-  builds none i made f d up items c s [] q g from no_text before safe room deep h =
-      let count : made ≡ made + 0 = omega arith in
-      record {
-        items' = items;
-        control' = c;
-        reached = s;
-        steps = step.none;
-        acts = subst (λ (k : ℕ). ActsAs n s (state z k (under d.node none f) (d ∷ up) items c)) count (subst (λ (v : Forest N). ActsAs n s (state z made v (d ∷ up) items c)) (sym (under-none d.node f)) from);
-        thinned = same;
-        keeps = keeps-all c;
-      }
-  builds none i made f d up items c s (t ∷ ts) q g from no_text before safe room deep h = absurd cc
+  builds none i made f d up items c s ts q g from no_text before safe room deep h = built_none made f d up items c s ts from h
   builds (tree b (element x attrs) kids rest) i made f d up items c s ts q g from no_text before safe room deep h =
       go (is_void (n.tag x)) refl (builds kids) (builds rest)
     where
