@@ -4,8 +4,9 @@ use Rattle.hopen.specs.Formatting.{cleared, is_equal, most_equal, without_earlie
 use Rattle.hadopt.proofs.Climbing.{OnGoes, goes-then, goes-map, Plain, PlainEntries, plain-without, inserted-goes}
 use Rattle.hadopt.proofs.Inserting.{standing-fits, put-stands, added-well, inserted-well, put-well, missing-well, reconstructed-well, first-fits, here-fits, root-fits, place-fits, fits-standing}
 use Rattle.hadopt.proofs.Keeping.{to-well, from-well}
-use Rattle.hadopt.proofs.Lists.{Among, each-among, pairs-among, skip, keep, among-all, empty}
+use Rattle.hadopt.proofs.Lists.{Among, each-among, skip, keep, among-all, empty}
 use Rattle.hadopt.proofs.Settling.{Well}
+use Rattle.hadopt.proofs.Turning.{fewer}
 use Rattle.std.proofs.Common.{filter, ltb}
 use Rattle.names.specs.declared.error.ParseError.{ParseError}
 
@@ -37,14 +38,7 @@ module _ {N : Type 0} (n : Naming N) where
   gives-kept (Err e) new o is h = tt
 
   pub fewer-kept : (s : SiteOf N) (open_now : List (OpenNode N)) → Among open_now (stack s) → IsSound n s → IsSound n (with_stack open_now s)
-  fewer-kept s open_now a k = record {
-    counted = k.counted;
-    open_stands = record {
-      stand = each-among _ open_now (stack s) a k.open_stands.stand;
-      order = pairs-among _ open_now (stack s) a k.open_stands.order;
-    };
-    plain = k.plain;
-  }
+  fewer-kept s open_now a k = from-well n (with_stack open_now s) (fewer n s open_now a (to-well n s k))
 
   pub listed-kept : (s : SiteOf N) (items : List (Listed N)) → PlainEntries n items → IsSound n s → IsSound n (with_items items s)
   listed-kept s items p k = record { counted = k.counted; open_stands = k.open_stands; plain = p }

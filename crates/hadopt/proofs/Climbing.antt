@@ -1,7 +1,7 @@
 -- The inner loop of the adoption agency: the open nodes are in the document's tree or in that of the last node.
 use Rattle.hadopt.proofs.Names.{◌≡◌, ◌≢◌, ℕ, suc, ◌+◌, ◌<◌, ◌≤◌, Bool, true, false, not, leb, List, [], ◌∷◌, ◌++◌, Some, refl, sym, ◌∙◌, subst, arith, ◌⊎◌, inl, inr, find, eq-eqb, ne_eqb, ◌==◌, What, element, Forest, none, tree, times, join, tree_at, AreCounted, graft_last, make, LastIn, without, OpenNode, is_node, EntryOf, Listed, marker, entry, entries, is_of_node, entry_of, without_entry, for_node, with_node, Table, TooManyNodes, cond_both, some_same, SiteOf, Attribute, Place, graft, with_trees, with_stack, length, added, with_open, inserted, at-most, is-there, not-there, deep-there, times-new, counted-new, counted-graft, deep, deep-lower, deep-is, deep-self, deep-new, deep-newest, graft-deep, graft-apart, graft-below, Naming, Outcome, Goes, Refused, and_then, stack, trees, with_items, made, InnerLoop, entries_for, left, node_replaced, inner_turn, inner_loop, Each, Pairs}
 use Rattle.hadopt.proofs.Choices.{or-both, by_zero}
-use Rattle.hadopt.proofs.Lists.{each-map, pairs-map, Among, empty, skip, keep, each-among, pairs-among, among-without, Front, front-next, front-pairs, front-map, front-each, front-without, front-changed, each-changed, pairs-changed}
+use Rattle.hadopt.proofs.Lists.{each-map, pairs-map, Among, empty, skip, keep, each-among, pairs-among, among-without, Front, front-next, front-pairs, front-map, front-each, front-without, front-changed, each-change, pairs-changed}
 
 -- what holds where it goes on
 abbrev pub OnGoes : {S : Type 0} → (S → Type 0) → Outcome S → Type 0
@@ -186,9 +186,7 @@ module _ {N : Type 0} (n : Naming N) where
           counted = grown-sound count (trees c.site) h.counted c.last_node h.low h.pos w;
           low = omega arith;
           pos = omega (arith, h.low);
-          each = each-changed (λ y. Plain y.name × (is_node x.node y ≡ false)) (Now w) (is_node x.node) x new rest (stack c.site) (λ y p. p.1) is-x apart
-              (inr new_in, omega (arith, h.low))
-              (each-map _ _ (λ y p. p.0) (stack c.site) (now-each w));
+          each = each-change (Now w) (is_node x.node) new (stack c.site) (inr new_in, omega (arith, h.low)) (each-map _ _ (λ y p. p.0) (stack c.site) (now-each w));
           behind = each-map _ _ (now-behind w) rest h.behind.1;
           order = pairs-changed (λ y. (Plain y.name × (is_node x.node y ≡ false)) × (y.node ≢ count)) (λ a b. deep b.node a.node (f' w) ≡ 0) (is_node x.node) x new rest (stack c.site) (λ y p. p.0.1) is-x
               (front-each (λ y. Plain y.name × (is_node x.node y ≡ false)) (λ y. Now w y × (y.node ≢ count)) (λ y. (Plain y.name × (is_node x.node y ≡ false)) × (y.node ≢ count)) (λ y p q. (p, q.1)) (x ∷ rest) (stack c.site) apart (now-each w))

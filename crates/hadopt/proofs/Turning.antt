@@ -5,7 +5,7 @@ use Rattle.std.proofs.lemmas.Bool.{not-false}
 use Rattle.hadopt.proofs.Choices.{by_test, or-both}
 use Rattle.hopen.specs.Formatting.{booked}
 use Rattle.names.specs.Sets.{stops_scope}
-use Rattle.hadopt.proofs.Lists.{each-map, each-both, pairs-map, Among, empty, skip, among-all, among-after, each-among, pairs-among, among-without, Front, front-among, front-pairs, front-each, pairs-put}
+use Rattle.hadopt.proofs.Lists.{each-map, each-both, pairs-map, Among, empty, skip, among-all, among-after, each-among, pairs-among, among-without, Front, front-among, front-pairs, front-each, each-put, pairs-put}
 use Rattle.hadopt.proofs.Climbing.{OnGoes, goes-then, made-goes, find-each, Plain, PlainEntries, plain-without, plain-with_node, Climbing, inner-loop-climbs}
 use Rattle.hadopt.proofs.Searching.{any-after, any-each, pairs-after, scope-front, scope-open, At, at-nearest, special-there}
 use Rattle.hadopt.proofs.Settling.{Well, StandsAt, place-fits, placed-well, block-stands, ended, ended-sound, ended-out, ended-below, ended-above, ended-stands, ended-new, above-apart, block-apart}
@@ -15,10 +15,6 @@ module _ {X : Type 0} where
   put-none p new [] h = refl
   put-none p new (x ∷ xs) h = by_test (p x) (λ v. (v || list_any p xs) ≡ false → cond v (new ∷ x ∷ xs) (x ∷ item_put_before p new xs) ≡ x ∷ xs) (λ _ k. cc)
       (λ _ k. ap (λ l. x ∷ l) (put-none p new xs k)) h
-
-  pub each-put-any : (P : X → Type 0) (p : X → Bool) (new : X) (xs : List X) → P new → Each P xs → Each P (item_put_before p new xs)
-  each-put-any P p new [] n e = tt
-  each-put-any P p new (x ∷ xs) n e = cond_both (p x) (new ∷ x ∷ xs) _ (Each P) (λ _. (n, e)) (λ _. (e.0, each-put-any P p new xs n e.1))
 
   pub among-past : (p : X → Bool) (xs : List X) → Among (popped_past p xs) xs
   among-past p [] = empty
@@ -51,7 +47,7 @@ module _ {N : Type 0} (n : Naming N) where
   plain-booked old new InPlace items h = plain-with_node n old new items h
   plain-booked old new (After k) items h = or-both (PlainEntries n) _ (find (is_entry old) items) items (λ _. h)
       (λ i e. from-items (item_put_before (is_entry k) (for_node new i) (without (is_entry old) items))
-      (each-put-any PlainItem (is_entry k) (for_node new i) (without (is_entry old) items) (plain-for new i (find-each PlainItem (is_entry old) items i (to-items items h) e))
+      (each-put PlainItem (is_entry k) (for_node new i) (without (is_entry old) items) (plain-for new i (find-each PlainItem (is_entry old) items i (to-items items h) e))
       (each-among PlainItem (without (is_entry old) items) items (among-without (is_entry old) items) (to-items items h))))
 
   -- Where nodes go from the stack, entries from the list, or an error comes.
@@ -121,7 +117,7 @@ module _ {N : Type 0} (n : Naming N) where
         front-each _ _ _ (λ y p q. (p, q.1)) (a.at ∷ a.up) left_open (front-pairs (λ y. is_node block y ≡ false) (λ x y. deep y.node x.node (trees s) ≡ 0) (a.at ∷ a.up) left_open a.front old_order) each' in
         let behind = each-among _ (a.at ∷ a.up) left_open (front-among _ (a.at ∷ a.up) left_open a.front) each' in
         let up_order = (pairs-among (λ x y. deep y.node x.node (trees s) ≡ 0) (a.at ∷ a.up) left_open (front-among _ (a.at ∷ a.up) left_open a.front) old_order).0 in (
-          each-put-any _ (is_node block) new left_open new-stands (each-map _ _ (λ x p. p.0) left_open each'),
+          each-put _ (is_node block) new left_open new-stands (each-map _ _ (λ x p. p.0) left_open each'),
           pairs-put _ _ (is_node block) a.at new a.up left_open (λ y p. p.0.0) a.sought front
               (λ y p. ended-below count (trees s) h.counted block stands.0 stands.1 w y.node p.1 (subst (λ (k : ℕ). deep k y.node (trees s) ≡ 0) is p.0.1.0)) (
                 ended-above count (trees s) h.counted block stands.0 stands.1 w a.at.node behind.0.1 (rw is (block-apart count (trees s) h.counted block stands.0 stands.1 w)),

@@ -400,15 +400,14 @@ impl Site {
         leaving: NodeId,
         above: NodeId,
         new: Open,
-    ) -> Result<(), Refusal>
+    ) -> Result<(), AllocError>
         requires begun { 0 < new.node }
         requires new_in { new.node < self.old.nodes.made }
         requires leaving { is_open leaving (stack self.old) ≡ true }
-        ensures done { Gives result self.new
-            (Goes (with_stack (item_put_before (is_node above) (open_of new) (without (is_node leaving) (stack self.old))) self.old)) }
+        ensures done { OnOk result (self.new
+            ≡ with_stack (item_put_before (is_node above) (open_of new) (without (is_node leaving) (stack self.old))) self.old) }
         ensures nodes { self.new.nodes ≡ self.old.nodes }
     {
-        self.stack.exchange(leaving, above, new)?;
-        Ok(())
+        self.stack.exchange(leaving, above, new)
     }
 }

@@ -1,5 +1,5 @@
-use Rattle.hadopt.proofs.Names.{◌<◌, ◌≤◌, ◌+◌, before, is_node, above, InPlace, numbers, option_map, open_of, stack, inner_loop, inner_loop_of}
-use Rattle.hadopt.proofs.Ways.{OnWay, way_left}
+use Rattle.hadopt.proofs.Names.{◌<◌, ◌≤◌, ◌+◌, length, before, is_node, above, InPlace, numbers, option_map, open_of, stack, inner_loop, inner_loop_of}
+use Rattle.hadopt.proofs.Ways.{OnWay, from}
 use Rattle.hadopt.proofs.site.Site.inner_loop.Given as goal
 
 abbrev pub invariant-loop-next : goal.invariant-loop-next
@@ -14,4 +14,4 @@ invariant-loop-next l = record {
 }
 
 abbrev pub decreases-loop-next : goal.decreases-loop-next
-decreases-loop-next l = way_left (option_map open_of l.next) (stack l.self)
+decreases-loop-next l = length (from (option_map open_of l.next) (stack l.self))
