@@ -1,62 +1,25 @@
 -- Where a child of a node is.
-use Rattle.hnodes.proofs.Names.{◌≡◌, ℕ, ◌<◌, ◌≤◌, Bool, true, false, eqb, cond, Option, Some, None, refl, sym, ◌∙◌, ap, subst, arith, eqb-true, eq-eqb, What, Forest, none, tree, times, join, children_of, Spot, spot_below, spot_of, last_or}
-use Rattle.hnodes.proofs.Forests.{times-join, join-none, children_of-absent}
+use Rattle.hnodes.proofs.Names.{◌≡◌, ℕ, ◌≤◌, Option, Some, None, refl, sym, ◌∙◌, ap, arith, eqb-true, eq-eqb, What, Forest, none, tree, times, join, children_of, Spot, spot_below, spot_of, last_or}
+use Rattle.hnodes.proofs.Forests.{times-join, join-none}
 use Rattle.hnodes.proofs.Spots.{either-none, spot_below-absent, spot_of-absent}
 use Rattle.hnodes.proofs.Fresh.{spot_of-join}
-use Rattle.hnodes.proofs.Families.{at_root, in_kids, in_rest, sited, children-among}
+use Rattle.hnodes.proofs.Families.{of_root, of_kids, of_rest, child, left-apart}
 
 module _ {N : Type 0} (n q : ℕ) (w : What N) (L k R : Forest N) where
   -- the child n among its siblings
-  abbrev row : Forest N
-  row = join L (tree n w k R)
-
   abbrev pub spot_among : (parent before : Option ℕ) → Spot N
   spot_among p x = record { parent = p; before = last_or x L; what = w; children = k; after = R }
-
-  -- the parent is a root, or the child is in one of two forests with it
-  pub data Child (b : ℕ) (kids rest : Forest N) : Type 0 where
-    of_root : eqb b q ≡ true → eqb b n ≡ false → times n kids ≡ 1 → times n rest ≡ 0 → kids ≡ row → times q rest ≡ 0 → Child b kids rest
-    of_kids : eqb b q ≡ false → eqb b n ≡ false → times n kids ≡ 1 → times n rest ≡ 0 → times q kids ≡ 1 → children_of q kids ≡ row → times q rest ≡ 0 → Child b kids rest
-    of_rest : eqb b q ≡ false → times q kids ≡ 0 → eqb b n ≡ false → times n kids ≡ 0 → times n rest ≡ 1 → times q rest ≡ 1 → children_of q rest ≡ row → Child b kids rest
-
-  here : {X : Forest N} → X ≡ row → 0 < times n X
-  here e = rw (e, times-join n L (tree n w k R), eq-eqb n n refl) (omega arith)
-
-  pub child : (b : ℕ) (v : What N) (kids rest : Forest N) → times q (tree b v kids rest) ≡ 1 → times n (tree b v kids rest) ≡ 1 → children_of q (tree b v kids rest) ≡ row → Child b kids rest
-  child b v kids rest one once is = elim (sited q b kids rest one) [
-    | at_root i a z ↦ let j = in_left (here (is_cond i)) in of_root i j.0 j.2 j.1 (is_cond i) z
-    | in_kids i a z ↦
-        let left : children_of q kids ≡ row = sym (join-none (children_of q kids)) ∙ ap (join (children_of q kids)) (sym (children_of-absent q rest z)) ∙ is_cond i in
-        let j = in_left (let h = here left in let m = children-among n q kids in omega arith) in
-        of_kids i j.0 j.2 j.1 a left z
-    | in_rest i a z ↦
-        let right : children_of q rest ≡ row = ap (λ g. join g (children_of q rest)) (sym (children_of-absent q kids a)) ∙ is_cond i in
-        let j = in_right (let h = here right in let m = children-among n q rest in omega arith) in
-        of_rest i a j.0 j.1 j.2 z right
-  ]
-    where
-      is_cond : {u : Bool} → eqb b q ≡ u → cond u kids (join (children_of q kids) (children_of q rest)) ≡ row
-      is_cond e = subst (λ (u : Bool). cond u kids (join (children_of q kids) (children_of q rest)) ≡ row) e is
-
-      in_left : 0 < times n kids → (eqb b n ≡ false) × (times n rest ≡ 0) × (times n kids ≡ 1)
-      in_left h = grind arith
-
-      in_right : 0 < times n rest → (eqb b n ≡ false) × (times n kids ≡ 0) × (times n rest ≡ 1)
-      in_right h = grind arith
 
 module _ {N : Type 0} (n q : ℕ) (w : What N) where
   spot-row : (p x : Option ℕ) (L k R : Forest N) → times n L ≡ 0 → spot_below n p x (join L (tree n w k R)) ≡ Some (spot_among n q w L k R p x)
   spot-row p x none k R h = rw (eq-eqb n n refl) refl
   spot-row p x (tree b v kids rest) k R h = grind (arith, spot-row p (Some b) rest k R, spot_below-absent)
 
-  pub left-apart : (L k R : Forest N) → times n (join L (tree n w k R)) ≡ 1 → times n L ≡ 0
-  left-apart L k R h = grind (arith, times-join)
-
   child-below : (p x : Option ℕ) (L k R f : Forest N) → times q f ≡ 1 → times n f ≡ 1 → children_of q f ≡ join L (tree n w k R) → spot_below n p x f ≡ Some (spot_among n q w L k R (Some q) None)
   child-below p x L k R none one once is = absurd (omega arith)
   child-below p x L k R (tree b v kids rest) one once is = elim (child n q w L k R b v kids rest one once is) [
     | of_root i j o y same z ↦
-        let apart : times n L ≡ 0 = left-apart L k R (ap (times n) (sym same) ∙ o) in
+        let apart : times n L ≡ 0 = left-apart n q w L k R (ap (times n) (sym same) ∙ o) in
         rw (j, spot_below-absent n p (Some b) rest y, either-none (spot_below n (Some b) None kids), same, eqb-true b q i) (spot-row (Some q) None L k R apart)
     | of_kids i j o y a same z ↦ rw (j, spot_below-absent n p (Some b) rest y, either-none (spot_below n (Some b) None kids)) (child-below (Some b) None L k R kids a o same)
     | of_rest i t j o y a same ↦ rw (j, spot_below-absent n (Some b) None kids o) (child-below p (Some b) L k R rest a y same)

@@ -1,6 +1,6 @@
 -- A node and its children.
-use Rattle.hnodes.proofs.Names.{◌≡◌, ℕ, ◌+◌, ◌<◌, ◌≤◌, Bool, true, false, eqb, cond, Option, Some, None, refl, sym, ◌∙◌, ap, subst, arith, eqb-true, eq-eqb, option_map, What, Forest, none, tree, times, join, tree_at, cut, children_of, change_children, spot_below, spot_of, first_or, last_or, first_child_of, last_child_of}
-use Rattle.hnodes.proofs.Forests.{some_inj, times-join, join-none, cut-absent, tree_at-absent, children_of-absent, change_children-absent}
+use Rattle.hnodes.proofs.Names.{◌≡◌, ℕ, ◌+◌, ◌<◌, ◌≤◌, Bool, true, false, eqb, cond, Option, Some, None, refl, sym, ◌∙◌, ap, subst, arith, eqb-true, eq-eqb, option_map, What, Forest, none, tree, times, join, tree_at, children_of, spot_below, spot_of, first_or, last_or, first_child_of, last_child_of}
+use Rattle.hnodes.proofs.Forests.{some_inj, times-join, join-none, tree_at-absent, children_of-absent}
 use Rattle.hnodes.proofs.Spots.{spot_below-absent, spot_of-absent, either-none}
 
 module _ {N : Type 0} where
@@ -26,39 +26,46 @@ module _ {N : Type 0} where
   children-among c m none = omega arith
   children-among c m (tree b v kids rest) = grind (arith, children-among c m kids, children-among c m rest, times-join)
 
-  -- a first child is cut
-  pub first-cut : (m c : ℕ) (w : What N) (k R f : Forest N) → times m f ≡ 1 → times c f ≡ 1 → children_of m f ≡ tree c w k R
-      → (cut c f ≡ change_children m (λ _. R) f) × (tree_at c f ≡ tree c w k none)
-  first-cut m c w k R none h once e = absurd (omega arith)
-  first-cut m c w k R (tree b v kids rest) h once e = elim (sited m b kids rest h) [
-    | at_root i a z ↦
-        let is : kids ≡ tree c w k R = is_cond i in
-        let j = in_left (here is) in
-        (rw (i, j.0, is, eq-eqb c c refl, cut-absent c rest j.1) refl, rw (j.0, is, eq-eqb c c refl, tree_at-absent c rest j.1) refl)
+module _ {N : Type 0} (n q : ℕ) (w : What N) (L k R : Forest N) where
+  -- the child n among its siblings
+  abbrev row : Forest N
+  row = join L (tree n w k R)
+
+  -- the parent is a root, or the child is in one of two forests with it
+  pub data Child (b : ℕ) (kids rest : Forest N) : Type 0 where
+    of_root : eqb b q ≡ true → eqb b n ≡ false → times n kids ≡ 1 → times n rest ≡ 0 → kids ≡ row → times q rest ≡ 0 → Child b kids rest
+    of_kids : eqb b q ≡ false → eqb b n ≡ false → times n kids ≡ 1 → times n rest ≡ 0 → times q kids ≡ 1 → children_of q kids ≡ row → times q rest ≡ 0 → Child b kids rest
+    of_rest : eqb b q ≡ false → times q kids ≡ 0 → eqb b n ≡ false → times n kids ≡ 0 → times n rest ≡ 1 → times q rest ≡ 1 → children_of q rest ≡ row → Child b kids rest
+
+  pub left-apart : times n row ≡ 1 → times n L ≡ 0
+  left-apart h = grind (arith, times-join)
+
+  here : {X : Forest N} → X ≡ row → 0 < times n X
+  here e = rw (e, times-join n L (tree n w k R), eq-eqb n n refl) (omega arith)
+
+  pub child : (b : ℕ) (v : What N) (kids rest : Forest N) → times q (tree b v kids rest) ≡ 1 → times n (tree b v kids rest) ≡ 1 → children_of q (tree b v kids rest) ≡ row → Child b kids rest
+  child b v kids rest one once is = elim (sited q b kids rest one) [
+    | at_root i a z ↦ let j = in_left (here (is_cond i)) in of_root i j.0 j.2 j.1 (is_cond i) z
     | in_kids i a z ↦
-        let is : children_of m kids ≡ tree c w k R = rw (← join-none (children_of m kids), ← children_of-absent m rest z) (is_cond i) in
-        let j = in_left (let t = here is in let u = children-among c m kids in omega arith) in
-        let s = first-cut m c w k R kids a j.2 is in
-        (rw (i, j.0, s.0, cut-absent c rest j.1, change_children-absent m (λ _. R) rest z) refl, rw (j.0, s.1, tree_at-absent c rest j.1) refl)
+        let left : children_of q kids ≡ row = sym (join-none (children_of q kids)) ∙ ap (join (children_of q kids)) (sym (children_of-absent q rest z)) ∙ is_cond i in
+        let j = in_left (let h = here left in let m = children-among n q kids in omega arith) in
+        of_kids i j.0 j.2 j.1 a left z
     | in_rest i a z ↦
-        let is : children_of m rest ≡ tree c w k R = ap (λ g. join g (children_of m rest)) (sym (children_of-absent m kids a)) ∙ is_cond i in
-        let j = in_right (let t = here is in let u = children-among c m rest in omega arith) in
-        let s = first-cut m c w k R rest z j.2 is in
-        (rw (i, j.0, s.0, cut-absent c kids j.1, change_children-absent m (λ _. R) kids a) refl, rw (j.0, s.1, tree_at-absent c kids j.1) refl)
+        let right : children_of q rest ≡ row = ap (λ g. join g (children_of q rest)) (sym (children_of-absent q kids a)) ∙ is_cond i in
+        let j = in_right (let h = here right in let m = children-among n q rest in omega arith) in
+        of_rest i a j.0 j.1 j.2 z right
   ]
     where
-      is_cond : {u : Bool} → eqb b m ≡ u → cond u kids (join (children_of m kids) (children_of m rest)) ≡ tree c w k R
-      is_cond i = subst (λ (u : Bool). cond u kids (join (children_of m kids) (children_of m rest)) ≡ tree c w k R) i e
+      is_cond : {u : Bool} → eqb b q ≡ u → cond u kids (join (children_of q kids) (children_of q rest)) ≡ row
+      is_cond e = subst (λ (u : Bool). cond u kids (join (children_of q kids) (children_of q rest)) ≡ row) e is
 
-      here : {X : Forest N} → X ≡ tree c w k R → 0 < times c X
-      here i = rw (i, eq-eqb c c refl) (omega arith)
+      in_left : 0 < times n kids → (eqb b n ≡ false) × (times n rest ≡ 0) × (times n kids ≡ 1)
+      in_left h = grind arith
 
-      in_left : 0 < times c kids → (eqb b c ≡ false) × (times c rest ≡ 0) × (times c kids ≡ 1)
-      in_left j = grind arith
+      in_right : 0 < times n rest → (eqb b n ≡ false) × (times n kids ≡ 0) × (times n rest ≡ 1)
+      in_right h = grind arith
 
-      in_right : 0 < times c rest → (eqb b c ≡ false) × (times c kids ≡ 0) × (times c rest ≡ 1)
-      in_right j = grind arith
-
+module _ {N : Type 0} where
   -- the first child that is asked for is the first of the children
   below-children : (m : ℕ) (p x : Option ℕ) (f : Forest N) → times m f ≡ 1 → option_map (λ s. s.children) (spot_below m p x f) ≡ Some (children_of m f)
   below-children m p x none h = absurd (omega arith)

@@ -3,7 +3,8 @@ use Rattle.hnodes.proofs.Names.{inl, inr, ◌≡◌, ◌≢◌, ℕ, ◌+◌, �
 use Rattle.std.proofs.lemmas.Bool.{cases_lt}
 use Rattle.hnodes.proofs.Forests.{join-none, join-assoc, times-join, tree_at-absent, children_of-absent, change_children-absent, times-changed, times-cut, children-apart, change-const}
 use Rattle.hnodes.proofs.Counted.{at-most, is-there}
-use Rattle.hnodes.proofs.Families.{at_root, in_kids, in_rest, sited, family, first-cut, first-is, first_child-is, children-among}
+use Rattle.hnodes.proofs.Levels.{edits-below}
+use Rattle.hnodes.proofs.Families.{at_root, in_kids, in_rest, sited, family, first-is, first_child-is, children-among}
 
 module _ {N : Type 0} where
   tree_at-front : (n : ℕ) (f g : Forest N) → times n g ≡ 0 → tree_at n (join f g) ≡ tree_at n f
@@ -82,11 +83,11 @@ module _ {N : Type 0} where
           let in_children : 0 < times c (children_of m f) = rw (is, eq-eqb c c refl) (omega arith) in
           let one_c : times c f ≡ 1 = let i = children-among c m f in let o = at-most v.made v.trees a.counted c in let j = in_children in omega arith in
           let positive : 0 < c = elim (cases_lt 0 c) [ inl some ↦ some | inr none_is ↦ absurd (let zero_is : c ≡ 0 = omega arith in let z : 0 < times 0 (children_of m f) = subst (λ (x : ℕ). 0 < times x (children_of m f)) zero_is in_children in let y = not_zero v m a in omega arith) ] in
-          let cuts : (cut c f ≡ change_children m (λ _. R) f) × (tree_at c f ≡ T) = first-cut m c w k R f one_m one_c is in
-          let g_is : graft_last c p f ≡ change_children p (λ x. join x T) (change_children m (λ _. R) f) = λ i. change_children p (λ x. join x (cuts.1 i)) (cuts.0 i) in
+          let cuts = edits-below c w k R m none f one_m one_c is in
+          let g_is : graft_last c p f ≡ change_children p (λ x. join x T) (change_children m (λ _. R) f) = λ i. change_children p (λ x. join x (cuts.tree_is i)) (cuts.cut_is i) in
           let p_tree : times p (tree m (family m f one_m).0 (tree c w k R) none) ≡ 0 = ap (times p) (sym ((family m f one_m).1 ∙ ap (λ x. tree m (family m f one_m).0 x none) is)) ∙ out in
           let m_p : m ≢ p = λ j. let o : 1 + (times p (tree c w k R) + 0) ≡ 0 = subst (λ (u : Bool). cond u 1 0 + (times p (tree c w k R) + 0) ≡ 0) (eq-eqb m p j) p_tree in omega arith in
-          let p_T : times p (tree_at c f) ≡ 0 = ap (times p) cuts.1 ∙ omega (arith, p_tree) in
+          let p_T : times p (tree_at c f) ≡ 0 = ap (times p) cuts.tree_is ∙ omega (arith, p_tree) in
           let m_T : times m T ≡ 0 = let o : times m (tree c w k R) ≡ 0 = ap (times m) (sym is) ∙ children-apart m f one_m in omega arith in
           -- the tree of m has the children after c
           let changed : (u : What N) × (tree_at m (change_children m (λ _. R) f) ≡ tree m u R none) = tree_at-changed m R f one_m in

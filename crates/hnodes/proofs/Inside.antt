@@ -1,8 +1,8 @@
 -- Whether a node is inside another: its parent says so.
-use Rattle.hnodes.proofs.Names.{◌≡◌, ◌≢◌, ℕ, ◌+◌, ◌<◌, ◌≤◌, Bool, true, false, eqb, cond, Some, None, refl, sym, ◌∙◌, ap, subst, arith, ◌⊎◌, inl, inr, eq-eqb, ne_eqb, What, Forest, none, tree, size, times, join, tree_at, children_of, IsOutside, Look, Loose, parent_in}
-use Rattle.hnodes.proofs.Forests.{times-join, size-join, times-cut, size-cut, join-none, children_of-absent}
+use Rattle.hnodes.proofs.Names.{◌≡◌, ◌≢◌, ℕ, ◌+◌, ◌<◌, ◌≤◌, eqb, cond, Some, None, refl, sym, ◌∙◌, ap, arith, ◌⊎◌, inl, inr, eq-eqb, ne_eqb, What, Forest, none, tree, size, times, join, tree_at, children_of, IsOutside, Look, Loose, parent_in}
+use Rattle.hnodes.proofs.Forests.{times-join, size-join, times-cut, size-cut}
 use Rattle.hnodes.proofs.Levels.{level, Here, Below}
-use Rattle.hnodes.proofs.Families.{Sited, at_root, in_kids, in_rest, sited, family, children-among}
+use Rattle.hnodes.proofs.Families.{of_root, of_kids, of_rest, child, family}
 use Rattle.hnodes.proofs.Cuts.{here-row, below-row}
 
 module _ {N : Type 0} where
@@ -20,42 +20,26 @@ module _ {N : Type 0} where
       omega (arith, tree_at-joined n top L (tree n w k R), tree_at-among n top L)
 
   -- a child is in a tree where its parent is, but for its own
-  child-inside : (n q top : ℕ) (w : What N) (L k R f : Forest N) → n ≢ top → times n f ≤ 1 → times q f ≡ 1 → children_of q f ≡ join L (tree n w k R) → times n (tree_at top f) ≡ times q (tree_at top f)
-  child-inside n q top w L k R none h once one is = absurd (omega arith)
-  child-inside n q top w L k R (tree b v kids rest) h once one is = go (child-inside n q top w L k R kids h) (child-inside n q top w L k R rest h) (sited q b kids rest one) (eqb b top) refl
+  child-inside : (n q top : ℕ) (w : What N) (L k R f : Forest N) → n ≢ top → times q f ≡ 1 → times n f ≡ 1 → children_of q f ≡ join L (tree n w k R) → times n (tree_at top f) ≡ times q (tree_at top f)
+  child-inside n q top w L k R none h one once is = absurd (omega arith)
+  child-inside n q top w L k R (tree b v kids rest) h one once is = elim (child n q w L k R b v kids rest one once is) [
+    | of_root i j o y same z ↦
+        let all : times n kids ≡ times n L + (1 + (times n k + times n R)) = ap (times n) same ∙ rw (times-join n L (tree n w k R), eq-eqb n n refl) refl in
+        let out : times n (tree_at top kids) ≡ 0 = ap (λ g. times n (tree_at top g)) same ∙ root-outside n top L w k R h (omega arith) (omega arith) (omega arith) in
+        let no : times q kids ≡ 0 = grind arith in
+        both (rw (i, j) (omega arith)) (omega (arith, out, tree_at-among n top rest, tree_at-among q top kids, tree_at-among q top rest))
+    | of_kids i j o y a same z ↦
+        both (rw (i, j) (omega arith)) (omega (arith, child-inside n q top w L k R kids h a o same, tree_at-among n top rest, tree_at-among q top rest))
+    | of_rest i t j o y a same ↦
+        both (rw (i, j) (omega arith)) (omega (arith, child-inside n q top w L k R rest h a y same, tree_at-among n top kids, tree_at-among q top kids))
+  ]
     where
-      in_join : 0 < times n (join L (tree n w k R))
-      in_join = let j = times-join n L (tree n w k R) in rw (times-join n L (tree n w k R), eq-eqb n n refl) (omega arith)
+      either : (x : ℕ) → times x (tree_at top (tree b v kids rest)) ≡ cond (eqb b top) (times x (tree b v kids none)) (times x (tree_at top kids) + times x (tree_at top rest))
+      either x = grind (arith, times-join)
 
-      below : {X : Forest N} → X ≡ join L (tree n w k R) → 0 < times n X
-      below e = rw e in_join
-
-      at : eqb b q ≡ true → kids ≡ join L (tree n w k R)
-      at i = subst (λ (u : Bool). cond u kids (join (children_of q kids) (children_of q rest)) ≡ join L (tree n w k R)) i is
-
-      left : eqb b q ≡ false → times q rest ≡ 0 → children_of q kids ≡ join L (tree n w k R)
-      left i z = sym (join-none (children_of q kids)) ∙ ap (join (children_of q kids)) (sym (children_of-absent q rest z)) ∙ subst (λ (u : Bool). cond u kids (join (children_of q kids) (children_of q rest)) ≡ join L (tree n w k R)) i is
-
-      right : eqb b q ≡ false → times q kids ≡ 0 → children_of q rest ≡ join L (tree n w k R)
-      right i z = ap (λ g. join g (children_of q rest)) (sym (children_of-absent q kids z)) ∙ subst (λ (u : Bool). cond u kids (join (children_of q kids) (children_of q rest)) ≡ join L (tree n w k R)) i is
-
-      go : (times n kids ≤ 1 → times q kids ≡ 1 → children_of q kids ≡ join L (tree n w k R) → times n (tree_at top kids) ≡ times q (tree_at top kids))
-          → (times n rest ≤ 1 → times q rest ≡ 1 → children_of q rest ≡ join L (tree n w k R) → times n (tree_at top rest) ≡ times q (tree_at top rest))
-          → Sited q b kids rest → (u : Bool) → eqb b top ≡ u → times n (tree_at top (tree b v kids rest)) ≡ times q (tree_at top (tree b v kids rest))
-      go l r (at_root i a z) true e = let x = below (at i) in rw (e, i) (omega arith)
-      go l r (at_root i a z) false e =
-          let x = below (at i) in
-          let y : times n kids ≡ times n L + (1 + (times n k + times n R)) = ap (times n) (at i) ∙ rw (times-join n L (tree n w k R), eq-eqb n n refl) refl in
-          let out : times n (tree_at top kids) ≡ 0 = ap (λ g. times n (tree_at top g)) (at i) ∙ root-outside n top L w k R h (omega arith) (omega arith) (omega arith) in
-          rw e (omega (arith, times-join n (tree_at top kids) (tree_at top rest), times-join q (tree_at top kids) (tree_at top rest), out, tree_at-among n top rest, tree_at-among q top kids, tree_at-among q top rest))
-      go l r (in_kids i a z) true e = let x = below (left i z) in let y = children-among n q kids in rw (e, i) (omega arith)
-      go l r (in_kids i a z) false e =
-          let x = below (left i z) in let y = children-among n q kids in
-          rw e (omega (arith, times-join n (tree_at top kids) (tree_at top rest), times-join q (tree_at top kids) (tree_at top rest), l (omega arith) a (left i z), tree_at-among n top rest, tree_at-among q top rest))
-      go l r (in_rest i a z) true e = let x = below (right i a) in let y = children-among n q rest in rw (e, i) (omega arith)
-      go l r (in_rest i a z) false e =
-          let x = below (right i a) in let y = children-among n q rest in
-          rw e (omega (arith, times-join n (tree_at top kids) (tree_at top rest), times-join q (tree_at top kids) (tree_at top rest), r (omega arith) z (right i a), tree_at-among n top kids, tree_at-among q top kids))
+      both : times n (tree b v kids none) ≡ times q (tree b v kids none) → times n (tree_at top kids) + times n (tree_at top rest) ≡ times q (tree_at top kids) + times q (tree_at top rest)
+          → times n (tree_at top (tree b v kids rest)) ≡ times q (tree_at top (tree b v kids rest))
+      both e f = either n ∙ (λ t. cond (eqb b top) (e t) (f t)) ∙ sym (either q)
 
   -- one step up
   pub data Up (look : Look N) (f : Forest N) (n top : ℕ) : Type 0 where
@@ -74,7 +58,7 @@ module _ {N : Type 0} where
           let a : size (tree_at p.parent f) ≡ 1 + (size (children_of p.parent f) + 0) = ap size fam.1 in
           let b : size (children_of p.parent f) ≡ size p.left + (1 + (size p.kids + size p.right)) = ap size p.is ∙ size-join p.left (tree n p.what p.kids p.right) in
           let c : size (tree_at n f) ≡ 1 + (size p.kids + 0) = ap size p.tree_is in
-          higher p.parent (ap parent_in (below-row look n f p s)) (child-inside n p.parent top p.what p.left p.kids p.right f h (omega (arith, one)) p.one p.is) (omega arith)
+          higher p.parent (ap parent_in (below-row look n f p s)) (child-inside n p.parent top p.what p.left p.kids p.right f h p.one one p.is) (omega arith)
 
   pub top-inside : (top : ℕ) (f : Forest N) → times top f ≡ 1 → times top (tree_at top f) ≢ 0
   top-inside top f one z = let i : times top (tree_at top f) ≡ 1 + (times top (children_of top f) + 0) = ap (times top) (family top f one).1 ∙ rw (eq-eqb top top refl) refl in omega arith

@@ -2,7 +2,7 @@
 use Rattle.std.proofs.lemmas.Bool.Decides.{nat_tests}
 use Rattle.hnodes.proofs.IndexNames.{◌≡◌, ℕ, zero, suc, ◌+◌, ◌<◌, ◌≤◌, Bool, true, false, cond, not, List, [], ◌∷◌, ◌++◌, Some, None, length, get_or, set, take, drop, map, refl, sym, ◌∙◌, ap, arith, position, position_or_len, list_any, map-append, length-map, length-drop, get_or-map, before, after, without, changed, item_put_before, changed_at}
 use Rattle.std.proofs.Common.{ltb, reverse}
-use Rattle.std.specs.List.{find, insert, remove, remove_range, slice_get}
+use Rattle.std.specs.List.{find, insert, remove, slice_get}
 use Rattle.std.specs.Option.{is_some, IfSome}
 use Rattle.std.proofs.lemmas.Bool.{ltb-true}
 use Rattle.std.proofs.lemmas.List.{reverse-append, append_assoc, length-reverse, take-append-drop, set_split, take_at, drop_at, get_or-reverse}
@@ -140,12 +140,6 @@ module _ {X Y : Type 0} (f : X → Y) where
   cut_nearest items i up h =
       reverse_split (take i items) (drop (suc i) items)
       ∙ rw (← take_nearest items (suc i) up (omega arith), ← drop_nearest items i (suc up) h) refl
-
-  -- a run of members leaves, where this many are nearer
-  pub remove_run_nearest : (items : List X) (from to up count : ℕ) → from + count ≡ to → to + up ≡ length items → reverse (map f (remove_range items from to)) ≡ remove_range (reverse (map f items)) up (up + count)
-  remove_run_nearest items from to up count h k =
-      reverse_split (take from items) (drop to items)
-      ∙ rw (← take_nearest items to up k, ← drop_nearest items from (up + count) (omega arith)) refl
 
   -- edits of a vector at the nearest that is sought, which has this many nearer than it
   module _ (sought : Y → Bool) where

@@ -1,6 +1,7 @@
 -- What the vector says of the value of a tree, and what is left to show after an edit.
 use Rattle.hnodes.proofs.Names.{◌≡◌, ℕ, zero, suc, true, ltb, cond, is_none, ◌++◌, ◌<◌, ◌≤◌, List, [], ◌∷◌, Option, Some, None, length, refl, sym, ◌∙◌, ap, subst, arith, Forest, What, document, tree, none, roots, change_what, Nodes, AreNodes, Row, Look, Loose, RowsStandIn, standing, loose, is_loose, parent_in, previous_in, next_in, with_what, at_row, look_in, row_of, content_is, get_or, set, eqb, Bool, option_map, nodes_in, inside_nodes, AreKept, AreTree, Holds, IsAmong, IsGrown, IsKept, IsTree, Node, NodeData, Store, Inside}
 use Rattle.std.specs.List.{HoldsAt}
+use Rattle.std.specs.Prelude.{Result, Ok, Err, OnOk, OnErr}
 use Rattle.std.proofs.lemmas.List.{length-set}
 use Rattle.hnodes.proofs.Stored.{grown-holds}
 use Rattle.hnodes.proofs.Rows.{kept-at, kept-grown, kept-set, look_in-at, look_in-grown, look_in-set}
@@ -156,3 +157,17 @@ module _ (t : Inside) (v : Nodes ℕ) (s : Store) (n j : ℕ) (x : Node) (c : No
     where
       go : (b : Bool) (r : Option (Row ℕ)) → cond b (option_map (λ m. m) r) r ≡ r
       go b r = grind arith
+
+  -- a call that writes, or shows nothing where it fails
+  module _ {A E : Type 0} (g : What ℕ → What ℕ) where
+    pub tried : (r : Result A E) → g document ≡ document → OnOk r (Holds s c (g (content_is t.store x.content))) → OnErr r (Holds s c (content_is t.store x.content)) → AreTree s (set t.nodes.items j (record x { content = c })) t.limit
+    tried (Ok a) stays ok err = became t v s _ n g o stays (written g ok)
+    tried (Err e) stays ok err = stayed t v s _ o (unwritten err)
+
+    pub tried_ok : (r : Result A E) → OnOk r (Holds s c (g (content_is t.store x.content))) → OnOk r (nodes_in s (set t.nodes.items j (record x { content = c })) t.limit ≡ record v { trees = change_what n g v.trees })
+    tried_ok (Ok a) ok = became_view t v s _ n g o (written g ok)
+    tried_ok (Err e) ok = tt
+
+    pub tried_err : (r : Result A E) → OnErr r (Holds s c (content_is t.store x.content)) → OnErr r (nodes_in s (set t.nodes.items j (record x { content = c })) t.limit ≡ v)
+    tried_err (Ok a) err = tt
+    tried_err (Err e) err = stayed_view t v s _ o (unwritten err)

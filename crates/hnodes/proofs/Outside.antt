@@ -1,11 +1,11 @@
 -- What the edits do to what is inside and what is outside.
-use Rattle.hnodes.proofs.Names.{◌≡◌, ◌≢◌, ℕ, ◌+◌, ◌<◌, ◌≤◌, refl, sym, ◌∙◌, arith, What, document, Forest, none, tree, times, join, tree_at, cut, children_of, change_what, IsOutside, AreCounted, place_node, graft, move_all, Place, LastIn, Before}
+use Rattle.hnodes.proofs.Names.{◌≡◌, ◌≢◌, ℕ, ◌<◌, ◌≤◌, refl, sym, ◌∙◌, arith, What, Forest, none, tree, times, join, tree_at, cut, children_of, change_what, IsOutside, AreCounted, place_node, graft, move_all, Place, LastIn, Before}
 use Rattle.hnodes.proofs.Forests.{times-cut, children-apart}
 use Rattle.hnodes.proofs.Whats.{times-what}
-use Rattle.hnodes.proofs.Counts.{emptied, times-emptied-less}
-use Rattle.hnodes.proofs.Deep.{deep, deep-join, deep-lower, deep-upper, deep-is, children-deep}
+use Rattle.hnodes.proofs.Counts.{emptied}
+use Rattle.hnodes.proofs.Deep.{deep, deep-join, deep-upper, deep-is, children-deep}
 use Rattle.hnodes.proofs.DeepEdits.{deep-cut, deep-cut-apart, deep-hung, deep-hung-apart, deep-hung-below, deep-put, deep-put-apart, deep-put-below, deep-emptied, deep-emptied-apart}
-use Rattle.hnodes.proofs.Counted.{NotBefore, at-most, is-there, not-there, counted-new, counted-graft, counted-move, counted-what}
+use Rattle.hnodes.proofs.Counted.{NotBefore, at-most, is-there, counted-move}
 
 module _ {N : Type 0} where
   -- A node is made.
@@ -35,82 +35,20 @@ module _ {N : Type 0} where
   graft-below x y n (LastIn p) f b h out in_y = deep-hung-below x y p (tree_at n f) (cut n f) (omega (arith, times-cut p n f)) (omega (arith, deep-cut-apart p y n f out))
   graft-below x y n (Before s) f b h out in_y = deep-put-below x y s (tree_at n f) (cut n f) b (omega (arith, times-cut s n f)) (omega (arith, deep-cut-apart s y n f out))
 
-  -- The children of a node go into another.
-
-  -- where that one is outside of y, nothing more is inside y
-  pub move-deep : (x y m p : ℕ) (f : Forest N) → times p f ≤ 1 → deep p y f ≡ 0 → deep x y (move_all m p f) ≤ deep x y f
-  move-deep x y m p f one out =
-      omega (
-        arith,
-        deep-hung x y p (children_of m f) (emptied m f) (omega (arith, times-emptied-less p m f)) (omega (arith, deep-emptied p y m f)),
-        deep-emptied x y m f,
-      )
-
-  -- a node that is below no child of m is inside of the same ones
-  pub move-apart : (x y m p : ℕ) (f : Forest N) → times x (children_of m f) ≡ 0 → deep x y (move_all m p f) ≡ deep x y f
-  move-apart x y m p f h = deep-hung-apart x y p (children_of m f) (emptied m f) h ∙ deep-emptied-apart x y m f h
-
   -- A node becomes something else.
 
   pub deep-what : (x y n : ℕ) (g : What N → What N) (f : Forest N) → deep x y (change_what n g f) ≡ deep x y f
   deep-what x y n g none = refl
   deep-what x y n g (tree b w kids rest) = grind (arith, deep-what x y n g kids, deep-what x y n g rest, times-what)
 
-  -- The same of nodes that are counted: what is outside stays outside.
+  -- The children of a node go into another: the node stays outside of that one.
 
-  module _ (made : ℕ) (f : Forest N) (counted : AreCounted made f) where
-    pub outside-deep : (x y : ℕ) → IsOutside x y f → deep x y f ≡ 0
-    outside-deep x y out = deep-is x y f (at-most made f counted y) ∙ out
-
-    pub deep-outside : (x y : ℕ) → deep x y f ≡ 0 → IsOutside x y f
-    deep-outside x y none_in = sym (deep-is x y f (at-most made f counted y)) ∙ none_in
-
-  module _ (made : ℕ) (f : Forest N) (counted : AreCounted made f) where
-    -- a node is made: of those that were there, and of the new one
-    pub outside-made : (x y : ℕ) (w : What N) → y ≢ made → IsOutside x y f → IsOutside x y (join f (tree made w none none))
-    outside-made x y w h out = deep-outside (made + 1) (join f (tree made w none none)) (counted-new made w f counted) x y (deep-new x y made w f h ∙ outside-deep made f counted x y out)
-
-    pub outside-newest : (x : ℕ) (w : What N) → x ≢ made → IsOutside x made (join f (tree made w none none))
-    outside-newest x w h = deep-outside (made + 1) (join f (tree made w none none)) (counted-new made w f counted) x made (deep-newest x made w f (not-there made f counted made (omega arith)) h)
-
-    pub newest-outside : (y : ℕ) (w : What N) → y ≢ made → IsOutside made y (join f (tree made w none none))
-    newest-outside y w h =
-        deep-outside (made + 1) (join f (tree made w none none)) (counted-new made w f counted) made y (deep-new made y made w f h ∙ deep-lower made y f (not-there made f counted made (omega arith)))
-
-    -- a node is put at a place
-    module _ (n : ℕ) (place : Place) (begun : 0 < n) (below : NotBefore 0 place) (there : place_node place < made) (apart : IsOutside (place_node place) n f) where
-      grafted : AreCounted made (graft n place f)
-      grafted = counted-graft made n place f counted begun below (is-there made f counted (place_node place) there) apart
-
-      pub outside-graft : (x y : ℕ) → IsOutside (place_node place) y f → IsOutside x y f → IsOutside x y (graft n place f)
-      outside-graft x y away out =
-          let less = graft-deep x y n place f (at-most made f counted (place_node place)) (outside-deep made f counted (place_node place) y away) in
-          deep-outside made (graft n place f) grafted x y (omega (arith, less, outside-deep made f counted x y out))
-
-      pub outside-graft-apart : (x y : ℕ) → IsOutside x n f → IsOutside x y f → IsOutside x y (graft n place f)
-      outside-graft-apart x y away out = deep-outside made (graft n place f) grafted x y (graft-apart x y n place f away ∙ outside-deep made f counted x y out)
-
-    -- the children of a node go into another
-    module _ (m p : ℕ) (from : m < made) (to : p < made) (apart : IsOutside p m f) where
-      not_child : times p (children_of m f) ≡ 0
-      not_child = omega (arith, children-deep p m f, outside-deep made f counted p m apart)
-
-      moved : AreCounted made (move_all m p f)
-      moved = counted-move made m p f counted (is-there made f counted m from) (is-there made f counted p to) not_child
-
-      pub outside-move : (x y : ℕ) → IsOutside p y f → IsOutside x y f → IsOutside x y (move_all m p f)
-      outside-move x y away out =
-          let less = move-deep x y m p f (at-most made f counted p) (outside-deep made f counted p y away) in
-          deep-outside made (move_all m p f) moved x y (omega (arith, less, outside-deep made f counted x y out))
-
-      -- a node that is below no child of m
-      pub outside-move-apart : (x y : ℕ) → times x (children_of m f) ≡ 0 → IsOutside x y f → IsOutside x y (move_all m p f)
-      outside-move-apart x y away out = deep-outside made (move_all m p f) moved x y (move-apart x y m p f away ∙ outside-deep made f counted x y out)
-
-      -- the node itself
-      pub moved-outside : IsOutside m p f → IsOutside m p (move_all m p f)
-      moved-outside out = outside-move-apart m p (children-apart m f (is-there made f counted m from)) out
-
-    -- a node becomes something else
-    pub outside-what : (x y n : ℕ) (g : What N → What N) → g document ≡ document → IsOutside x y f → IsOutside x y (change_what n g f)
-    outside-what x y n g same out = deep-outside made (change_what n g f) (counted-what made n g f same counted) x y (deep-what x y n g f ∙ outside-deep made f counted x y out)
+  pub moved-outside : (made : ℕ) (f : Forest N) → AreCounted made f → (m p : ℕ) → m < made → p < made → IsOutside p m f → IsOutside m p f → IsOutside m p (move_all m p f)
+  moved-outside made f counted m p from to apart out =
+      let one = is-there made f counted m from in
+      let inner = children-apart m f one in
+      let outer : times p (children_of m f) ≡ 0 = omega (arith, children-deep p m f, deep-is p m f (at-most made f counted m), apart) in
+      let moved = counted-move made m p f counted one (is-there made f counted p to) outer in
+      sym (deep-is m p (move_all m p f) (at-most made (move_all m p f) moved p))
+      ∙ deep-hung-apart m p p (children_of m f) (emptied m f) inner ∙ deep-emptied-apart m p m f inner
+      ∙ deep-is m p f (at-most made f counted p) ∙ out

@@ -1,11 +1,10 @@
 -- A new node at a place: where it is, and that a change of it changes what came there.
-use Rattle.hnodes.proofs.Names.{◌≡◌, ◌≢◌, ℕ, ◌<◌, true, false, eqb, cond, List, Option, Some, None, refl, sym, ◌∙◌, ap, subst, arith, option_and_then, IsSome, ◌⊎◌, inl, inr, eq-eqb, ne_eqb, option_map, What, text, Forest, none, tree, times, join, tree_at, cut, children_of, change_children, change_what, put_before, Spot, last_or, parent_of, last_child_of, Nodes, AreCounted, graft, IsPlace, Place, LastIn, Before}
-use Rattle.hnodes.proofs.Forests.{join-none, join-assoc, cut-absent, children_of-absent, change_children-absent, last_or-join}
-use Rattle.hnodes.proofs.Levels.{level, Here, Below}
+use Rattle.hnodes.proofs.Names.{◌≡◌, ◌≢◌, ℕ, ◌<◌, true, false, eqb, cond, List, Option, Some, None, refl, sym, ◌∙◌, ap, subst, arith, option_and_then, IsSome, ◌⊎◌, inl, inr, eq-eqb, ne_eqb, option_map, What, text, Forest, none, tree, times, join, children_of, change_children, change_what, put_before, Spot, last_or, parent_of, last_child_of, Nodes, AreCounted, graft, IsPlace, Place, LastIn, Before}
+use Rattle.hnodes.proofs.Forests.{join-none, join-assoc, children_of-absent, change_children-absent, last_or-join}
+use Rattle.hnodes.proofs.Levels.{level, Here, Below, cut-row, tree-row}
 use Rattle.hnodes.proofs.Families.{last_child-is}
 use Rattle.hnodes.proofs.Counts.{hung, times-hung, times-put}
 use Rattle.hnodes.proofs.Counted.{at-most, is-there, not-there}
-use Rattle.hnodes.proofs.Fresh.{tree_at-join}
 use Rattle.hnodes.proofs.ChildSpots.{child-spot, root-spot}
 use Rattle.hnodes.proofs.Respots.{IsTextBefore}
 
@@ -15,17 +14,10 @@ module _ {N : Type 0} where
   placed (LastIn p) t f = hung p t f
   placed (Before s) t f = put_before s t f
 
-  cut-join : (n : ℕ) (w : What N) (f : Forest N) → times n f ≡ 0 → cut n (join f (tree n w none none)) ≡ f
-  cut-join n w none h = rw (eq-eqb n n refl) refl
-  cut-join n w (tree b v kids rest) h = grind (arith, cut-join n w rest, cut-absent)
-
-  tree-made : (n : ℕ) (w : What N) (f : Forest N) → times n f ≡ 0 → tree_at n (join f (tree n w none none)) ≡ tree n w none none
-  tree-made n w f h = tree_at-join n f (tree n w none none) h ∙ rw (eq-eqb n n refl) refl
-
   -- a node that was just made is put at a place
   pub graft-made : (n : ℕ) (w : What N) (place : Place) (f : Forest N) → times n f ≡ 0 → graft n place (join f (tree n w none none)) ≡ placed place (tree n w none none) f
-  graft-made n w (LastIn p) f h = λ i. hung p (tree-made n w f h i) (cut-join n w f h i)
-  graft-made n w (Before s) f h = λ i. put_before s (tree-made n w f h i) (cut-join n w f h i)
+  graft-made n w (LastIn p) f h = λ i. hung p (tree-row n w none none f h i) ((cut-row n w none none f h ∙ join-none f) i)
+  graft-made n w (Before s) f h = λ i. put_before s (tree-row n w none none f h i) ((cut-row n w none none f h ∙ join-none f) i)
 
   children_of-changed : (p : ℕ) (g : Forest N → Forest N) (f : Forest N) → times p f ≡ 1 → children_of p (change_children p g f) ≡ g (children_of p f)
   children_of-changed p g none h = absurd (omega arith)

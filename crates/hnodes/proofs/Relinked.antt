@@ -1,7 +1,8 @@
 -- A list of numbers that keeps where its groups are, where one number changes.
 use Rattle.hnodes.proofs.Groups.{in-group, group-of}
-use Rattle.hnodes.proofs.IndexNames.{ne_eqb, ◌≡◌, ◌≢◌, ℕ, zero, suc, ◌+◌, ◌-◌, ◌<◌, ◌≤◌, eqb, Bool, true, false, cond, List, length, get_or, set, ◌⊎◌, inl, inr, refl, sym, ◌∙◌, ap, subst, add-one, arith, cases_Bool, cases_lt, eqb-true, eqb-false, eq-eqb, false_from_ne_true, get_or-set_same, get_or-set_other, length-map, length-set, map-set, none, last_up, link_number, before_of, numbers_of, befores_of, is_in_group, Keep, SaysLast, IsIndexed, IsNext, Link, group_of, in_group_of}
+use Rattle.hnodes.proofs.IndexNames.{ne_eqb, ◌≡◌, ◌≢◌, ℕ, zero, suc, ◌+◌, ◌-◌, ◌<◌, ◌≤◌, eqb, Bool, true, false, cond, List, length, get_or, set, ◌⊎◌, inl, inr, refl, sym, ◌∙◌, ap, subst, add-one, arith, cases_Bool, cases_lt, eq-eqb, false_from_ne_true, get_or-set_same, get_or-set_other, length-map, length-set, map-set, set-get_or, none, last_up, link_number, before_of, numbers_of, befores_of, is_in_group, Keep, IsIndexed, IsNext, Link, group_of, in_group_of}
 use Rattle.std.proofs.Math.ListN.{get_or-map}
+use Rattle.std.proofs.lemmas.Bool.{cases_eq}
 use Rattle.hnodes.proofs.LastUp.{up-within, up-found, up-least, up-past, up-alike, up-alike-from}
 
 -- a link, or an empty one past the end
@@ -16,11 +17,14 @@ until len (suc n) = n
 until-some : (len next : ℕ) → 0 < next → until len next ≡ next - 1
 until-some len next h = grind arith
 
-until-ne : (len next j : ℕ) → j < len → suc j ≢ next → j ≢ until len next
-until-ne len next j h ne e = grind arith
+until-next : (len next j : ℕ) → j < len → j ≡ until len next → suc j ≡ next
+until-next len next j h e = grind arith
 
-until-other : (len next j : ℕ) → next ≤ j → 0 < next → j ≢ until len next
-until-other len next j h some e = grind arith
+until-all : (len next : ℕ) → (0 < next → next ≤ len) → len ≡ until len next → next ≡ 0
+until-all len next h e = grind arith
+
+until-less : (len next : ℕ) → len ≢ until len next → 0 < next
+until-less len next e = grind arith
 
 module _ (w g : ℕ) where
   -- what a number of a group keeps
@@ -76,6 +80,13 @@ before-at links i = get_or-map before_of links i (record { number = 0; before = 
 pub number-at : (links : List Link) (i : ℕ) → get_or (numbers_of links) i 0 ≡ (nth links i).number
 number-at links i = get_or-map link_number links i (record { number = 0; before = 0; hint = 0 })
 
+pub is-some : (links : List Link) (i : ℕ) → (nth links i).number ≢ none → get_or (numbers_of links) i 0 ≢ none
+is-some links i ne e = ne (sym (number-at links i) ∙ e)
+
+-- what is there already may be put there
+pub set-known : (xs : List ℕ) (i n : ℕ) → get_or xs i 0 ≡ n → xs ≡ set xs i n
+set-known xs i n e = sym (set-get_or xs i 0) ∙ ap (λ m. set xs i m) e
+
 -- a step of a walk over links
 module _ (last : List ℕ) (links : List Link) (indexed : IsIndexed last links) (g i at next : ℕ) (k : Walk (is_in_group (length last) g) (numbers_of links) i at next) where
   pub down-found : 0 < at → is_in_group (length last) g (get_or (numbers_of links) (at - 1) 0) ≡ true
@@ -116,9 +127,9 @@ module _ (w g i next : ℕ) (xs ys : List ℕ) where
 
     alike : (h j : ℕ) → (h ≢ g) ⊎ (j ≢ i) → is_in_group w h (get_or ys j 0) ≡ is_in_group w h (get_or xs j 0)
     alike h j (inr e) = ap (λ n. is_in_group w h n) (d.same j e)
-    alike h j (inl e) = elim (cases_Bool (eqb j i)) [
-      | inl f ↦ (let f2 : j ≡ i = eqb-true j i f in subst (λ (m : ℕ). is_in_group w h (get_or ys m 0) ≡ is_in_group w h (get_or xs m 0)) (sym f2) (d.others h e))
-      | inr f ↦ ap (λ n. is_in_group w h n) (d.same j (eqb-false j i f))
+    alike h j (inl e) = elim (cases_eq j i) [
+      | inl f ↦ rw f (d.others h e)
+      | inr f ↦ ap (λ n. is_in_group w h n) (d.same j f)
     ]
 
     -- what keeps a place of the group before the index, or past the next place
@@ -128,30 +139,22 @@ module _ (w g i next : ℕ) (xs ys : List ℕ) where
         let f = d.next_is.found h.0 in
         up-alike-from (is_in_group w g) xs ys (next - 1) k (omega arith) f.2 (alike g (next - 1) (inr (omega (arith, f.0))) ∙ f.2) (λ j a b. alike g j (inr (omega (arith, f.0))))
 
-    -- a place that anything but the next place keeps
-    pub slot : (h k : ℕ) → (k ≡ length xs) ⊎ ((k < length xs) × (is_in_group w h (get_or xs k 0) ≡ true)) → (h ≢ g) ⊎ (k ≢ until (length xs) next) → last_up (is_in_group w h) ys k ≡ last_up (is_in_group w h) xs k
-    slot h k at (inl e) = up-alike (is_in_group w h) xs ys k (λ j a. alike h j (inl e))
-    slot h k at (inr e) = group (cases_Bool (eqb h g))
+    -- where a place of a group is kept: past the end, or at a number of the group
+    abbrev KeptAt : (group k : ℕ) → Type 0
+    KeptAt h k = (k ≡ length xs) ⊎ ((k < length xs) × (is_in_group w h (get_or xs k 0) ≡ true))
+
+    -- anything but the next place keeps what it kept
+    slot : (k : ℕ) → KeptAt g k → k ≢ until (length xs) next → last_up (is_in_group w g) ys k ≡ last_up (is_in_group w g) xs k
+    slot k at e = elim (cases_lt i k) [ inl a ↦ up-group k (inr (past next e d.next_is at a)) | inr a ↦ up-group k (inl a) ]
       where
-        past : (next : ℕ) → k ≢ until (length xs) next → IsNext (is_in_group w g) xs i next → (k ≡ length xs) ⊎ ((k < length xs) × (is_in_group w g (get_or xs k 0) ≡ true)) → i < k → (0 < next) × (next ≤ k)
+        past : (next : ℕ) → k ≢ until (length xs) next → IsNext (is_in_group w g) xs i next → KeptAt g k → i < k → (0 < next) × (next ≤ k)
         past zero n m (inl f) a = absurd (n f)
         past zero n m (inr f) a = absurd (omega (arith, (m.least k a f.0 f.1).0))
         past (suc b) n m (inl f) a = (omega arith, omega (arith, (m.found (omega arith)).1))
         past (suc b) n m (inr f) a = (omega arith, omega (arith, (m.least k a f.0 f.1).1))
 
-        place : (k ≡ length xs) ⊎ ((k < length xs) × (is_in_group w g (get_or xs k 0) ≡ true)) → (i < k) ⊎ (k ≤ i) → last_up (is_in_group w g) ys k ≡ last_up (is_in_group w g) xs k
-        place f (inl a) = up-group k (inr (past next e d.next_is f a))
-        place f (inr a) = up-group k (inl a)
-
-        group : (eqb h g ≡ true) ⊎ (eqb h g ≡ false) → last_up (is_in_group w h) ys k ≡ last_up (is_in_group w h) xs k
-        group (inl f) =
-            let f2 : h ≡ g = eqb-true h g f in
-            let at2 : (k ≡ length xs) ⊎ ((k < length xs) × (is_in_group w g (get_or xs k 0) ≡ true)) = subst (λ (m : ℕ). (k ≡ length xs) ⊎ ((k < length xs) × (is_in_group w m (get_or xs k 0) ≡ true))) f2 at in
-            subst (λ (m : ℕ). last_up (is_in_group w m) ys k ≡ last_up (is_in_group w m) xs k) (sym f2) (place at2 (cases_lt i k))
-        group (inr f) = up-alike (is_in_group w h) xs ys k (λ j a. alike h j (inl (eqb-false h g f)))
-
     -- what the next place keeps
-    pub slot-next : last_up (is_in_group w g) ys (until (length xs) next) ≡ last_up (is_in_group w g) ys (suc i)
+    slot-next : last_up (is_in_group w g) ys (until (length xs) next) ≡ last_up (is_in_group w g) ys (suc i)
     slot-next = go next d.next_is
       where
         go : (next : ℕ) → IsNext (is_in_group w g) xs i next → last_up (is_in_group w g) ys (until (length xs) next) ≡ last_up (is_in_group w g) ys (suc i)
@@ -160,78 +163,16 @@ module _ (w g i next : ℕ) (xs ys : List ℕ) where
             let f = m.found (omega arith) in
             up-past (is_in_group w g) ys (suc i) n (omega (arith, f.0)) (λ j a b. false_from_ne_true _ (λ e. absurd (omega (arith, (m.least j a (omega (arith, f.1)) (sym (alike g j (inr (omega arith))) ∙ e)).1))))
 
--- the table and the kept places of two such lists: what kept a place for the group keeps another one
-module _ (last new xs ys bs ds : List ℕ) (g i next v : ℕ) where
-  pub record Mended : Type 0 where
-    pub differ : Differ (length last) g i next xs ys
-    pub len : length new ≡ length last
-    pub table-other : (h : ℕ) → (h ≢ g) ⊎ (0 < next) → get_or new h 0 ≡ get_or last h 0
-    pub table-next : next ≡ 0 → get_or new g 0 ≡ v
-    pub before-other : (j : ℕ) → j ≢ i → suc j ≢ next → get_or ds j 0 ≡ get_or bs j 0
-    pub before-next : 0 < next → get_or ds (next - 1) 0 ≡ v
-    pub before-here : get_or ys i 0 ≢ none → get_or ds i 0 ≡ last_up (in_group_of (length last) (get_or ys i 0)) ys i
-    pub keeps : v ≡ last_up (is_in_group (length last) g) ys (suc i)
-
-  module _ (m : Mended) where
-    w : ℕ
-    w = length last
-
-    up-next : v ≡ last_up (is_in_group (length last) g) ys (until (length xs) next)
-    up-next = m.keeps ∙ sym (slot-next (length last) g i next xs ys m.differ)
-
-    says-group : SaysLast last xs → g < length last → get_or new g 0 ≡ last_up (is_in_group (length last) g) ys (length xs)
-    says-group says h = go next refl
-      where
-        go : (n : ℕ) → next ≡ n → get_or new g 0 ≡ last_up (is_in_group (length last) g) ys (length xs)
-        go zero e = m.table-next e ∙ up-next ∙ ap (λ n. last_up (is_in_group (length last) g) ys (until (length xs) n)) e
-        go (suc n) e =
-            let some : 0 < next = omega arith in
-            let past : length xs ≢ until (length xs) next = until-other (length xs) next (length xs) (omega (arith, (m.differ.next_is.found some).1)) some in
-            m.table-other g (inr some) ∙ says g h ∙ sym (slot (length last) g i next xs ys m.differ g (length xs) (inl refl) (inr past))
-
-    says-in : SaysLast last xs → (h : ℕ) → h < length last → get_or new h 0 ≡ last_up (is_in_group (length last) h) ys (length xs)
-    says-in says h a = go (cases_Bool (eqb h g))
-      where
-        go : (eqb h g ≡ true) ⊎ (eqb h g ≡ false) → get_or new h 0 ≡ last_up (is_in_group (length last) h) ys (length xs)
-        go (inl e) =
-            let same : h ≡ g = eqb-true h g e in
-            subst (λ (k : ℕ). get_or new k 0 ≡ last_up (is_in_group (length last) k) ys (length xs)) (sym same) (says-group says (subst (λ (k : ℕ). k < length last) same a))
-        go (inr e) =
-            let other : h ≢ g = eqb-false h g e in
-            m.table-other h (inl other) ∙ says h a ∙ sym (slot (length last) g i next xs ys m.differ h (length xs) (inl refl) (inl other))
-
-    pub mended-says : SaysLast last xs → SaysLast new ys
-    mended-says says h a =
-        says-in says h (omega (arith, m.len)) ∙ (λ t. last_up (is_in_group (sym m.len t) h) ys (sym m.differ.len t))
-
-    kept-at : Keep (length last) xs bs → (j : ℕ) → j < length xs → j ≢ i → get_or xs j 0 ≢ none → get_or ds j 0 ≡ last_up (in_group_of (length last) (get_or xs j 0)) ys j
-    kept-at keep j h other some = go (cases_Bool (eqb (suc j) next))
-      where
-        go : (eqb (suc j) next ≡ true) ⊎ (eqb (suc j) next ≡ false) → get_or ds j 0 ≡ last_up (in_group_of (length last) (get_or xs j 0)) ys j
-        go (inl e) =
-            let same : suc j ≡ next = eqb-true (suc j) next e in
-            let positive : 0 < next = omega arith in
-            let place : next - 1 ≡ j = omega arith in
-            let in_it : is_in_group (length last) g (get_or xs j 0) ≡ true = subst (λ (k : ℕ). is_in_group (length last) g (get_or xs k 0) ≡ true) place (m.differ.next_is.found positive).2 in
-            let group : group_of (get_or xs j 0) (length last) ≡ g = (group-of (length last) g (get_or xs j 0) in_it).1 in
-            let at : until (length xs) next ≡ j = sym (ap (λ n. until (length xs) n) same) in
-            subst (λ (k : ℕ). get_or ds k 0 ≡ v) place (m.before-next positive) ∙ up-next ∙ (λ t. last_up (is_in_group (length last) (sym group t)) ys (at t))
-        go (inr e) =
-            let ne : suc j ≢ next = eqb-false (suc j) next e in
-            let at : j ≢ until (length xs) next = until-ne (length xs) next j h ne in
-            m.before-other j other ne ∙ keep j h some ∙ sym (slot (length last) g i next xs ys m.differ (group_of (get_or xs j 0) (length last)) j (inr (h, in-group (length last) (group_of (get_or xs j 0) (length last)) (get_or xs j 0) some refl)) (inr at))
-
-    pub mended-keep : Keep (length last) xs bs → Keep (length new) ys ds
-    mended-keep keep j h some = go (cases_Bool (eqb j i)) ∙ ap (λ n. last_up (in_group_of n (get_or ys j 0)) ys j) (sym m.len)
-      where
-        go : (eqb j i ≡ true) ⊎ (eqb j i ≡ false) → get_or ds j 0 ≡ last_up (in_group_of (length last) (get_or ys j 0)) ys j
-        go (inl e) =
-            let same : j ≡ i = eqb-true j i e in
-            subst (λ (k : ℕ). get_or ys k 0 ≢ none → get_or ds k 0 ≡ last_up (in_group_of (length last) (get_or ys k 0)) ys k) (sym same) m.before-here some
-        go (inr e) =
-            let other : j ≢ i = eqb-false j i e in
-            let is : get_or ys j 0 ≡ get_or xs j 0 = m.differ.same j other in
-            kept-at keep j (omega (arith, m.differ.len)) other (λ n. some (is ∙ n)) ∙ ap (λ n. last_up (in_group_of (length last) n) ys j) (sym is)
+    -- so it is enough that the next place keeps another one
+    pub keeps-on : (h k old new v : ℕ) → KeptAt h k → v ≡ last_up (is_in_group w g) ys (suc i) → old ≡ last_up (is_in_group w h) xs k
+        → (h ≡ g → k ≡ until (length xs) next → new ≡ v) → ((h ≢ g) ⊎ (k ≢ until (length xs) next) → new ≡ old) → new ≡ last_up (is_in_group w h) ys k
+    keeps-on h k old new v at keeps is here there = elim (cases_eq h g) [
+      | inl a ↦ elim (cases_eq k (until (length xs) next)) [
+        | inl b ↦ here a b ∙ keeps ∙ sym slot-next ∙ (λ t. last_up (is_in_group w (sym a t)) ys (sym b t))
+        | inr b ↦ there (inr b) ∙ is ∙ subst (λ (m : ℕ). KeptAt m k → last_up (is_in_group w m) xs k ≡ last_up (is_in_group w m) ys k) (sym a) (λ f. sym (slot k f b)) at
+      ]
+      | inr a ↦ there (inl a) ∙ is ∙ sym (up-alike (is_in_group w h) xs ys k (λ j b. alike h j (inl a)))
+    ]
 
 -- in a list that is the same past an index
 pub next-same : (s : ℕ → Bool) (xs ys : List ℕ) (i n : ℕ) → length ys ≡ length xs → ((j : ℕ) → i < j → get_or ys j 0 ≡ get_or xs j 0) → IsNext s xs i n → IsNext s ys i n
@@ -294,57 +235,71 @@ module _ (last : List ℕ) (links : List Link) (x : Link) (g i next v : ℕ) (la
     pub here : x.number ≢ none → x.before ≡ last_up (in_group_of (length last) x.number) (set (numbers_of links) i x.number) i
     pub keeps : v ≡ last_up (is_in_group (length last) g) (set (numbers_of links) i x.number) (suc i)
 
-  module _ (r : Rewritten) where
-    pub rewritten-numbers : numbers_of links3 ≡ set (numbers_of links) i x.number
-    rewritten-numbers = r.numbers3 ∙ r.numbers2 ∙ map-set link_number links i x
+  module _ (r : Rewritten) (c : IsIndexed last links) where
+    abbrev ys : List ℕ
+    ys = set (numbers_of links) i x.number
+
+    numbers-are : numbers_of links3 ≡ ys
+    numbers-are = r.numbers3 ∙ r.numbers2 ∙ map-set link_number links i x
+
+    width-is : length last2 ≡ length last
+    width-is = rw r.table2 (elim (cases_Bool (eqb next 0)) [ inl e ↦ rw e (length-set last g v) | inr e ↦ rw e refl ])
+
+    table-other : (h : ℕ) → (h ≢ g) ⊎ (0 < next) → get_or last2 h 0 ≡ get_or last h 0
+    table-other h (inl ne) = rw r.table2 (elim (cases_Bool (eqb next 0)) [ inl e ↦ rw e (get_or-set_other last g h v 0 ne) | inr e ↦ rw e refl ])
+    table-other h (inr some) = rw (r.table2, ne_eqb next 0 (λ e. omega arith)) refl
+
+    says-at : (h : ℕ) → h < length last → get_or last2 h 0 ≡ last_up (is_in_group (length last) h) ys (length (numbers_of links))
+    says-at h a =
+        keeps-on (length last) g i next (numbers_of links) ys r.differ h (length (numbers_of links)) (get_or last h 0) (get_or last2 h 0) v (inl refl) r.keeps (c.says h a)
+        (λ same end. let none_next : next ≡ 0 = until-all (length (numbers_of links)) next (λ some. (r.differ.next_is.found some).1) end in rw (same, r.table2, eq-eqb next 0 none_next) (get_or-set_same last g v 0 r.group))
+        (λ e. table-other h (other e))
+      where
+        other : (h ≢ g) ⊎ (length (numbers_of links) ≢ until (length (numbers_of links)) next) → (h ≢ g) ⊎ (0 < next)
+        other (inl ne) = inl ne
+        other (inr ne) = inr (until-less (length (numbers_of links)) next ne)
 
     befores-at : (j : ℕ) → get_or (befores_of links3) j 0 ≡ cond (eqb (suc j) next) v (get_or (set (befores_of links) i x.before) j 0)
     befores-at j =
         ap (λ ds. get_or ds j 0) r.befores3 ∙ r.befores2 j ∙ (λ t. cond (eqb (add-one j t) next) v (get_or (map-set before_of links i x t) j 0))
 
-    table-at : (h : ℕ) → h ≢ g → get_or last2 h 0 ≡ get_or last h 0
-    table-at h ne = ap (λ t. get_or t h 0) r.table2 ∙ go (eqb next 0)
+    befores-other : (j : ℕ) → suc j ≢ next → get_or (befores_of links3) j 0 ≡ get_or (set (befores_of links) i x.before) j 0
+    befores-other j ne = befores-at j ∙ ap (λ b. cond b v (get_or (set (befores_of links) i x.before) j 0)) (ne_eqb (suc j) next ne)
+
+    kept-other : (j : ℕ) → j < length (numbers_of links) → j ≢ i → get_or (numbers_of links) j 0 ≢ none → get_or (befores_of links3) j 0 ≡ last_up (in_group_of (length last) (get_or (numbers_of links) j 0)) ys j
+    kept-other j h apart some =
+        keeps-on (length last) g i next (numbers_of links) ys r.differ own j (get_or (befores_of links) j 0) (get_or (befores_of links3) j 0) v (inr (h, in-group (length last) own (get_or (numbers_of links) j 0) some refl)) r.keeps (c.kept j h some)
+        (λ same at. befores-at j ∙ ap (λ b. cond b v (get_or (set (befores_of links) i x.before) j 0)) (eq-eqb (suc j) next (until-next (length (numbers_of links)) next j h at)))
+        (λ e. befores-other j (other e) ∙ get_or-set_other (befores_of links) i j x.before 0 apart)
       where
-        go : (b : Bool) → get_or (cond b (set last g v) last) h 0 ≡ get_or last h 0
-        go true = get_or-set_other last g h v 0 ne
-        go false = refl
+        own : ℕ
+        own = group_of (get_or (numbers_of links) j 0) (length last)
 
-    mended : Mended last last2 (numbers_of links) (set (numbers_of links) i x.number) (befores_of links) (befores_of links3) g i next v
-    mended = record {
-      differ = r.differ;
-      len = ap length r.table2 ∙ same_len (eqb next 0);
-      table-other = other;
-      table-next = λ e. ap (λ t. get_or t g 0) (r.table2 ∙ ap (λ b. cond b (set last g v) last) (eq-eqb next 0 e)) ∙ get_or-set_same last g v 0 r.group;
-      before-other = λ j ne nn. befores-at j ∙ ap (λ b. cond b v (get_or (set (befores_of links) i x.before) j 0)) (ne_eqb (suc j) next nn) ∙ get_or-set_other (befores_of links) i j x.before 0 ne;
-      before-next = λ h. let e : suc (next - 1) ≡ next = omega arith in befores-at (next - 1) ∙ ap (λ b. cond b v (get_or (set (befores_of links) i x.before) (next - 1) 0)) (eq-eqb (suc (next - 1)) next e);
-      before-here = λ some. here-at some;
-      keeps = r.keeps;
-    }
-      where
-        same_len : (b : Bool) → length (cond b (set last g v) last) ≡ length last
-        same_len true = length-set last g v
-        same_len false = refl
+        other : (own ≢ g) ⊎ (j ≢ until (length (numbers_of links)) next) → suc j ≢ next
+        other (inl ne) is =
+            let place : next - 1 ≡ j = omega arith in
+            ne (group-of (length last) g (get_or (numbers_of links) j 0) (subst (λ (k : ℕ). is_in_group (length last) g (get_or (numbers_of links) k 0) ≡ true) place (r.differ.next_is.found (omega arith)).2)).1
+        other (inr ne) is = ne (ap (λ n. until (length (numbers_of links)) n) is)
 
-        other : (h : ℕ) → (h ≢ g) ⊎ (0 < next) → get_or last2 h 0 ≡ get_or last h 0
-        other h (inl ne) = table-at h ne
-        other h (inr some) = ap (λ t. get_or t h 0) (r.table2 ∙ ap (λ b. cond b (set last g v) last) (ne_eqb next 0 (λ e. omega arith)))
+    kept-here : get_or ys i 0 ≢ none → get_or (befores_of links3) i 0 ≡ last_up (in_group_of (length last) (get_or ys i 0)) ys i
+    kept-here some =
+        let number : get_or ys i 0 ≡ x.number = get_or-set_same (numbers_of links) i x.number 0 r.differ.within in
+        befores-other i (λ e. omega (arith, (r.differ.next_is.found (omega arith)).0))
+        ∙ get_or-set_same (befores_of links) i x.before 0 (omega (arith, r.differ.within, length-map links link_number, length-map links before_of))
+        ∙ r.here (λ e. some (number ∙ e))
+        ∙ ap (λ n. last_up (in_group_of (length last) n) ys i) (sym number)
 
-        not-next : suc i ≢ next
-        not-next e = let some : 0 < next = omega arith in omega (arith, (r.differ.next_is.found some).0)
+    kept-all : Keep (length last) ys (befores_of links3)
+    kept-all j h some = elim (cases_eq j i) [
+      | inl e ↦ rw e (kept-here (rw e at some))
+      | inr ne ↦
+          let is : get_or ys j 0 ≡ get_or (numbers_of links) j 0 = r.differ.same j ne in
+          kept-other j (omega (arith, r.differ.len)) ne (λ n. some (is ∙ n)) ∙ ap (λ n. last_up (in_group_of (length last) n) ys j) (sym is)
+    ]
 
-        number_is : get_or (set (numbers_of links) i x.number) i 0 ≡ x.number
-        number_is = get_or-set_same (numbers_of links) i x.number 0 r.differ.within
-
-        here-at : get_or (set (numbers_of links) i x.number) i 0 ≢ none → get_or (befores_of links3) i 0 ≡ last_up (in_group_of (length last) (get_or (set (numbers_of links) i x.number) i 0)) (set (numbers_of links) i x.number) i
-        here-at some =
-            befores-at i ∙ ap (λ b. cond b v (get_or (set (befores_of links) i x.before) i 0)) (ne_eqb (suc i) next not-next)
-            ∙ get_or-set_same (befores_of links) i x.before 0 (omega (arith, r.differ.within, length-map links link_number, length-map links before_of))
-            ∙ r.here (λ e. some (number_is ∙ e))
-            ∙ ap (λ n. last_up (in_group_of (length last) n) (set (numbers_of links) i x.number) i) (sym number_is)
-
-    pub rewritten : IsIndexed last links → IsIndexed last2 links3
-    rewritten c = record {
-      wide = λ _. omega (arith, r.group, ap length r.table2, mended.len);
-      says = subst (λ (ys : List ℕ). SaysLast last2 ys) (sym rewritten-numbers) (mended-says last last2 (numbers_of links) (set (numbers_of links) i x.number) (befores_of links) (befores_of links3) g i next v mended c.says);
-      kept = subst (λ (ys : List ℕ). Keep (length last2) ys (befores_of links3)) (sym rewritten-numbers) (mended-keep last last2 (numbers_of links) (set (numbers_of links) i x.number) (befores_of links) (befores_of links3) g i next v mended c.kept);
+    pub rewritten : IsIndexed last2 links3
+    rewritten = record {
+      wide = λ _. omega (arith, r.group, width-is);
+      says = rw (width-is, numbers-are) (λ h a. says-at h a ∙ ap (last_up (is_in_group (length last) h) ys) (sym r.differ.len));
+      kept = rw (width-is, numbers-are) kept-all;
     }

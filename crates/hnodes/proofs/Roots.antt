@@ -1,12 +1,8 @@
 -- Which nodes are loose.
 use Rattle.hnodes.proofs.Names.{◌≡◌, ◌≢◌, ℕ, zero, suc, ◌<◌, ◌≤◌, Bool, true, false, eqb, cond, List, [], ◌∷◌, ◌++◌, Option, Some, None, refl, sym, ◌∙◌, ap, arith, eqb-true, eq-eqb, ne_eqb, eqb-false, Row, Look, standing, loose, is_loose, at_row, after_link, before_link, spliced, hooked, with_last, with_first, with_next, with_previous}
-use Rattle.std.proofs.Common.{append-nil}
+use Rattle.std.proofs.Common.{append-nil, append_assoc}
 use Rattle.hnodes.specs.Links.{leave}
 use Rattle.hnodes.proofs.Forests.{without}
-
-assoc : (xs ys zs : List ℕ) → (xs ++ ys) ++ zs ≡ xs ++ (ys ++ zs)
-assoc [] ys zs = refl
-assoc (x ∷ xs) ys zs = ap (λ l. x ∷ l) (assoc xs ys zs)
 
 without-end : (n c : ℕ) (xs : List ℕ) → c ≢ n → without n (xs ++ c ∷ []) ≡ without n xs ++ c ∷ []
 without-end n c [] h = rw (ne_eqb c n h) refl
@@ -48,8 +44,8 @@ module _ {N : Type 0} where
   past : (n : ℕ) (look : Look N) (c : ℕ) (ys : List ℕ) → c ≤ n → without n (loose c look ++ ys) ≡ loose c look ++ without n ys
   past n look zero ys h = refl
   past n look (suc c) ys h =
-      ap (without n) (assoc (loose c look) (cond (is_loose (look c)) (c ∷ []) []) ys) ∙ past n look c (cond (is_loose (look c)) (c ∷ []) [] ++ ys) (omega arith)
-      ∙ ap (λ zs. loose c look ++ zs) (past-one n c ys (is_loose (look c)) h) ∙ sym (assoc (loose c look) (cond (is_loose (look c)) (c ∷ []) []) (without n ys))
+      ap (without n) (append_assoc (loose c look) (cond (is_loose (look c)) (c ∷ []) []) ys) ∙ past n look c (cond (is_loose (look c)) (c ∷ []) [] ++ ys) (omega arith)
+      ∙ ap (λ zs. loose c look ++ zs) (past-one n c ys (is_loose (look c)) h) ∙ sym (append_assoc (loose c look) (cond (is_loose (look c)) (c ∷ []) []) (without n ys))
 
   pub loose-same : (look new : Look N) (c : ℕ) → ((b : ℕ) → b < c → is_loose (new b) ≡ is_loose (look b)) → loose c new ≡ loose c look
   loose-same look new zero same = refl

@@ -121,7 +121,7 @@ module _ {N M : Type 0} (g : N → M) where
   mapped-graft_before : (n s : ℕ) (f : Forest N) → mapped g (graft_before n s f) ≡ graft_before n s (mapped g f)
   mapped-graft_before n s f = mapped-put_before s (tree_at n f) (cut n f) ∙ (λ i. put_before s (mapped-tree_at n f i) (mapped-cut n f i))
 
-  mapped-graft : (n : ℕ) (place : Place) (f : Forest N) → mapped g (graft n place f) ≡ graft n place (mapped g f)
+  pub mapped-graft : (n : ℕ) (place : Place) (f : Forest N) → mapped g (graft n place f) ≡ graft n place (mapped g f)
   mapped-graft n (LastIn p) f = mapped-graft_last n p f
   mapped-graft n (Before s) f = mapped-graft_before n s f
 
@@ -144,7 +144,7 @@ module _ {N M : Type 0} (g : N → M) where
   mapped-with_char c (comment t) = refl
   mapped-with_char c (text t) = refl
 
-  mapped-text_before : (place : Place) (f : Forest N) → text_before place (mapped g f) ≡ text_before place f
+  pub mapped-text_before : (place : Place) (f : Forest N) → text_before place (mapped g f) ≡ text_before place f
   mapped-text_before place f = grind (arith, mapped-last_child_of, mapped-previous_of, mapped-what_of)
 
   mapped-char_into : (c : ℕ) (place : Place) (o : Option ℕ) (t : Nodes N) → mapped_nodes g (char_into c place o t) ≡ char_into c place o (mapped_nodes g t)

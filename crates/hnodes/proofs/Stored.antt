@@ -1,20 +1,16 @@
 -- What a run has stays what it is when more comes after it.
-use Rattle.hnodes.proofs.Names.{◌≡◌, ℕ, ◌+◌, ◌≤◌, ◌++◌, List, [], length, take, drop, refl, sym, ◌∙◌, ap, subst, arith, map, map-append, append_assoc, Option, Some, None, IfSome, All-head, element, text, comment, content_is, ◌∷◌, Attribute, NodeData, Adds, AreStored, AreTexts, IsKept, Holds, IsGrown, IsLonger, IsRun, IsText, Store, StoredAttr, Run, attributes_in_run, run_in, stored_attribute}
+use Rattle.hnodes.proofs.Names.{◌≡◌, ℕ, ◌+◌, ◌++◌, List, [], length, drop, refl, sym, ◌∙◌, ap, subst, arith, map, map-append, append_assoc, Option, Some, None, IfSome, All-head, element, text, comment, content_is, ◌∷◌, Attribute, NodeData, Adds, AreStored, AreTexts, IsKept, Holds, IsGrown, IsLonger, IsRun, IsText, Store, StoredAttr, Run, attributes_in_run, run_in, stored_attribute}
 use Rattle.std.specs.Prelude.{IsUtf8}
 use Rattle.std.proofs.lemmas.Str.{IsUtf8-append}
 use Rattle.std.proofs.lemmas.Slice.{between_is}
 use Rattle.std.proofs.lemmas.List.Elements.{All-push, All-tail, All-weaker}
-use Rattle.std.proofs.lemmas.List.{take-append-le, take-take, take_all, drop_at, drop-append-le, length-append, length-map, append-nil}
+use Rattle.std.proofs.lemmas.List.{take-append-le, take_all, drop_at, drop-append-le, length-append, length-map, append-nil}
 use Rattle.hnodes.specs.declared.node.NodeData.TheVariants as content
 
 module _ {X : Type 0} where
   pub run-more : (r : Run) (xs ys : List X) → IsRun r xs → run_in r (xs ++ ys) ≡ run_in r xs
   run-more r xs ys h =
       between_is (xs ++ ys) r.start (r.start + r.len) ∙ ap (drop r.start) (take-append-le (r.start + r.len) xs ys h) ∙ sym (between_is xs r.start (r.start + r.len))
-
-  pub run-take : (r : Run) (xs : List X) (n : ℕ) → r.start + r.len ≤ n → run_in r (take n xs) ≡ run_in r xs
-  run-take r xs n h =
-      between_is (take n xs) r.start (r.start + r.len) ∙ ap (drop r.start) (take-take (r.start + r.len) n xs h) ∙ sym (between_is xs r.start (r.start + r.len))
 
   -- a run up to the end, when more is added to it
   pub run-longer : (a l : ℕ) (xs ys : List X) → a + l ≡ length xs

@@ -3,7 +3,7 @@ use Rattle.hnodes.proofs.Groups.{in-group}
 use Rattle.hnodes.proofs.IndexNames.{◌≡◌, ◌≢◌, ℕ, suc, ◌+◌, ◌-◌, ◌<◌, ◌≤◌, Bool, true, false, List, length, get_or, set, ◌⊎◌, inl, inr, refl, sym, ◌∙◌, ap, subst, add-one, arith, cases_lt, false≢true, get_or-set_same, get_or-set_other, length-set, set_comm, none, last_up, is_in_group, IsNext, FitsAt, Link, group_of, in_group_of}
 use Rattle.std.proofs.lemmas.List.{set-set}
 use Rattle.hnodes.proofs.LastUp.{up-sought, up-other, up-alike}
-use Rattle.hnodes.proofs.Relinked.{next-same, not-in}
+use Rattle.hnodes.proofs.Relinked.{next-same}
 
 -- for the index before, or for the next one, where nothing of its group is between
 module _ (s : ℕ → Bool) (ys : List ℕ) (i n : ℕ) (other : s (get_or ys (i + 1) 0) ≡ false) where
@@ -36,12 +36,6 @@ module _ (w : ℕ) (ys : List ℕ) (i : ℕ) (x : Link) (free : get_or ys (i + 1
   fit-down f = record {
     before = f.before ∙ up-down (in_group_of w x.number) ys i x.hint other-here;
     next = next-down (in_group_of w x.number) ys i x.hint other-here f.next;
-  }
-
-  pub fit-up : FitsAt w ys i x → FitsAt w ys (i + 1) x
-  fit-up f = record {
-    before = f.before ∙ sym (up-down (in_group_of w x.number) ys i x.hint other-here);
-    next = next-up (in_group_of w x.number) ys i x.hint other-here f.next;
   }
 
 -- two neighbours were taken out, the lower one first, and the upper one came in below
@@ -90,17 +84,14 @@ module _ (w i : ℕ) (xs ys1 ys2 ys3 : List ℕ) (first second : Link) (e1 : ys1
       }
 
   -- they are of two groups
-  pub fit-other : FitsAt w ys1 i first → group_of first.number w ≢ group_of second.number w → FitsAt w ys3 (i + 1) first
-  fit-other f group = record {
+  pub fit-other : FitsAt w ys1 i first → in_group_of w first.number second.number ≡ false → FitsAt w ys3 (i + 1) first
+  fit-other f not-second = record {
     before = f.before ∙ sym (up-down s ys3 i first.hint (ap s free-upper) ∙ up-alike s ys1 ys3 (i + 1) (λ j a. alike j a (cases_lt j i)));
     next = next-same s ys1 ys3 (i + 1) first.hint (len3 ∙ sym len1) (λ j a. same-past1 j (λ e. omega arith) (λ e. omega arith)) (next-up s ys1 i first.hint (sym (ap s n2) ∙ not-second) f.next);
   }
     where
       s : ℕ → Bool
       s = in_group_of w first.number
-
-      not-second : in_group_of w first.number second.number ≡ false
-      not-second = not-in w (group_of second.number w) (group_of first.number w) second.number group refl
 
       alike : (j : ℕ) → j < i + 1 → (j < i) ⊎ (i ≤ j) → in_group_of w first.number (get_or ys3 j 0) ≡ in_group_of w first.number (get_or ys1 j 0)
       alike j a (inl less) = ap (in_group_of w first.number) (same-past1 j (λ e. omega arith) (λ e. omega arith))

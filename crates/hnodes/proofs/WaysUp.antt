@@ -2,7 +2,8 @@
 use Rattle.hnodes.proofs.Names.{◌≡◌, ℕ, ◌<◌, List, [], ◌∷◌, Some, None, refl, sym, ◌∙◌, ap, arith, option_and_then, unwrap_or, ◌⊎◌, inl, inr, eqb-true, eq-eqb, What, Forest, none, tree, times, join, children_of, Spot, parent_of, AreCounted, path_above, ancestors_of, way_up}
 use Rattle.hnodes.proofs.Levels.{level, Here, Below}
 use Rattle.hnodes.proofs.Counted.{at-most, is-there}
-use Rattle.hnodes.proofs.ChildSpots.{of_root, of_kids, of_rest, child, left-apart, child-spot, root-spot}
+use Rattle.hnodes.proofs.Families.{of_root, of_kids, of_rest, child, left-apart}
+use Rattle.hnodes.proofs.ChildSpots.{child-spot, root-spot}
 
 module _ {N : Type 0} where
   above-absent : (n : ℕ) (up : List ℕ) (f : Forest N) → times n f ≡ 0 → path_above n up f ≡ None

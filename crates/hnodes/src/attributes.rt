@@ -132,20 +132,13 @@ pub(crate) fn are_clean(attrs: Attrs) -> bool
     true
 }
 
-/// One more than the number of a name.
-fn past(name: NameId) -> usize
-    ensures { result ≡ suc name }
-{
-    name.index() + 1
-}
-
 /// One more than the greatest number among the names of attributes; 0 without any.
 pub(crate) fn names_end(attrs: Attrs) -> usize
     ensures { result ≡ names_end attrs.entry }
 {
     let mut end = 0;
     for (name, _) in attrs {
-        end = end.max(past(name));
+        end = end.max(name.index() + 1);
     }
     end
 }

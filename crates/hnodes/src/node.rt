@@ -312,7 +312,7 @@ pub(crate) fn add_text(
     match content {
         NodeData::Text(run) => match store.lengthen(*run, more)? {
             Some(longer) => *run = longer,
-            None => *content = long_text(store.text(*run), more, alloc)?,
+            None => *content = long_text(store.texts.get(*run), more, alloc)?,
         },
         NodeData::Long(text) => text.push_str(more)?,
         _ => {}

@@ -60,18 +60,20 @@ fn keep(last: &mut [u32], links: &mut [Link], group: usize, next: u32, place: u3
     }
 }
 
-/// Takes out the number at an index. The hint of the link that it gives is right.
+/// Takes out the number at an index, if one is there. The hint of the link that it gives is right.
 fn take_out(last: &mut [u32], links: &mut [Link], index: usize) -> Link
     requires are_indexed { AreIndexed last.old links.old }
     requires within { index < length links.old }
-    requires number { slice_index (numbers_of links.old) index ≢ none }
     ensures are_indexed { AreIndexed last.new links.new }
     ensures numbers { numbers_of links.new ≡ slice_set (numbers_of links.old) index none }
     ensures number { result.number ≡ slice_index (numbers_of links.old) index }
-    ensures fit { FitsAt (length last.new) (numbers_of links.new) index result }
+    ensures fit { result.number ≢ none → FitsAt (length last.new) (numbers_of links.new) index result }
 {
-    let hint = above(last, links, index);
     let Link { number, before, .. } = links[index];
+    if number == NONE as u64 {
+        return links[index];
+    }
+    let hint = above(last, links, index);
     links[index] = Link {
         number: NONE as u64,
         before: 0,
@@ -92,11 +94,13 @@ fn put_in(last: &mut [u32], links: &mut [Link], index: usize, link: Link)
     requires are_indexed { AreIndexed last.old links.old }
     requires within { index < length links.old }
     requires free { slice_index (numbers_of links.old) index ≡ none }
-    requires number { link.number ≢ none }
-    requires fit { FitsAt (length last.old) (numbers_of links.old) index link }
+    requires fit { link.number ≢ none → FitsAt (length last.old) (numbers_of links.old) index link }
     ensures are_indexed { AreIndexed last.new links.new }
     ensures numbers { numbers_of links.new ≡ slice_set (numbers_of links.old) index link.number }
 {
+    if link.number == NONE as u64 {
+        return;
+    }
     let place = index as u32 + 1;
     links[index] = link;
     let group = group_of(link.number as usize, last.len());
@@ -104,21 +108,32 @@ fn put_in(last: &mut [u32], links: &mut [Link], index: usize, link: Link)
     hint_at(links, link.before, place);
 }
 
-/// Exchanges two numbers. If they are of one group, the one that moves up keeps the place of the other one.
-fn exchange(last: &mut [u32], links: &mut [Link], index: usize)
+/// Whether another number is of the group of a number.
+fn is_grouped(number: u64, other: u64, width: usize) -> bool
+    requires { 0 < width }
+    ensures { result ≡ in_group_of width number other }
+{
+    other != NONE as u64 && group_of(other as usize, width) == group_of(number as usize, width)
+}
+
+/// Exchanges what is at an index and at the next one. If both are of one group, the one that moves up keeps the place of the other one.
+fn swap_at(last: &mut [u32], links: &mut [Link], index: usize)
     requires are_indexed { AreIndexed last.old links.old }
     requires within { index + 1 < length links.old }
-    requires first { slice_index (numbers_of links.old) index ≢ none }
-    requires second { slice_index (numbers_of links.old) (index + 1) ≢ none }
     ensures are_indexed { AreIndexed last.new links.new }
     ensures numbers { let old = numbers_of links.old in
         numbers_of links.new ≡ slice_set (slice_set old index (slice_index old (index + 1))) (index + 1) (slice_index old index) }
 {
+    let low = links[index].number;
+    let high = links[index + 1].number;
+    if low == high {
+        return;
+    }
     let first = take_out(last, links, index);
     let second = take_out(last, links, index + 1);
     put_in(last, links, index, second);
     let width = last.len();
-    let same = group_of(first.number as usize, width) == group_of(second.number as usize, width);
+    let same = is_grouped(first.number, second.number, width);
     let link = if same {
         Link {
             number: first.number,
@@ -131,39 +146,13 @@ fn exchange(last: &mut [u32], links: &mut [Link], index: usize)
     put_in(last, links, index + 1, link);
 }
 
-/// Exchanges what is at an index and at the next one.
-fn swap_at(last: &mut [u32], links: &mut [Link], index: usize)
-    requires are_indexed { AreIndexed last.old links.old }
-    requires within { index + 1 < length links.old }
-    ensures are_indexed { AreIndexed last.new links.new }
-    ensures numbers { let old = numbers_of links.old in
-        numbers_of links.new ≡ slice_set (slice_set old index (slice_index old (index + 1))) (index + 1) (slice_index old index) }
-{
-    let first = links[index].number;
-    let second = links[index + 1].number;
-    if first == second {
-        return;
-    }
-    if first == NONE as u64 {
-        let link = take_out(last, links, index + 1);
-        put_in(last, links, index, link);
-    } else if second == NONE as u64 {
-        let link = take_out(last, links, index);
-        put_in(last, links, index + 1, link);
-    } else {
-        exchange(last, links, index);
-    }
-}
-
 impl IndexedList {
     /// Puts `NONE` at an index.
     pub fn clear(&mut self, index: usize)
         requires { index < length self.old }
         ensures { self.new ≡ slice_set self.old index none }
     {
-        if self.links[index].number != NONE as u64 {
-            take_out(&mut self.last, &mut self.links, index);
-        }
+        take_out(&mut self.last, &mut self.links, index);
     }
 
     /// Puts a number at an index where nothing is. Allocates nothing.

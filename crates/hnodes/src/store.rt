@@ -164,7 +164,7 @@ fn fill_up(filled: &mut Vec<u8>, end: usize) -> Result<(), AllocError>
 /// The texts and the attributes of a tree, one after another: a node keeps a run of them.
 #[derive(Drop)]
 pub(crate) struct Store {
-    texts: Texts,
+    pub(crate) texts: Texts,
     attrs: Vec<StoredAttr>,
 }
 
@@ -175,15 +175,6 @@ impl Store {
             texts: Texts::new(alloc),
             attrs: Vec::new(alloc),
         }
-    }
-
-    /// The text of a run.
-    #[inline(always)]
-    pub(crate) fn text(&self, run: Run) -> &str
-        requires { IsText run self.now.texts }
-        ensures { result.now ≡ run_in run self.now.texts }
-    {
-        self.texts.get(run)
     }
 
     /// The attributes of a run.

@@ -195,14 +195,6 @@ impl Tree {
         self.make(Given::Doctype(texts), at)
     }
 
-    /// Makes a text, loose.
-    #[inline(always)]
-    fn create_run(&mut self, run: &str, at: u64) -> Result<NodeId, Refusal>
-        ensures { Makes (text run.now) at self.old self.new result }
-    {
-        self.make(Given::Text(run), at)
-    }
-
     /// Refuses where no further node may be made.
     fn room(&self, at: u64) -> Result<(), Refusal>
         ensures { result ≡ (if leb self.now.limit self.now.made then Err (TooManyNodes at) else Ok tt) }
@@ -323,9 +315,9 @@ impl Tree {
         let mut buffer = [0; 4];
         let text = c.encode_utf8(&mut buffer);
         match self.text_before(here) {
-            Some(before) => self.join(before, text),
+            Some(before) => Ok(self.join(before, text)?),
             None => {
-                let node = self.create_run(text, at)?;
+                let node = self.make(Given::Text(text), at)?;
                 self.insert(node, place);
                 Ok(())
             }
@@ -349,9 +341,9 @@ impl Tree {
         // A copy for the first of two calls.
         let here = place;
         match self.text_before(here) {
-            Some(before) => self.join(before, text),
+            Some(before) => Ok(self.join(before, text)?),
             None => {
-                let node = self.create_run(text, at)?;
+                let node = self.make(Given::Text(text), at)?;
                 self.insert(node, place);
                 Ok(())
             }
@@ -359,10 +351,9 @@ impl Tree {
     }
 
     /// Adds a text at the end of a text.
-    fn join(&mut self, node: NodeId, text: &str) -> Result<(), Refusal>
+    fn join(&mut self, node: NodeId, text: &str) -> Result<(), AllocError>
         requires { node < self.old.made }
         ensures ok { OnOk result (self.new ≡ record self.old { trees = change_what node (with_text text.now) self.old.trees }) }
-        ensures memory { IfErr result (λ e. e ≡ Memory) }
         ensures err { OnErr result (self.new ≡ self.old) }
     {
         add_text(
@@ -370,8 +361,7 @@ impl Tree {
             text,
             &mut self.store,
             self.alloc,
-        )?;
-        Ok(())
+        )
     }
 
     /// The text right before a place.
@@ -400,14 +390,14 @@ impl Tree {
         ensures err { OnErr result (self.new ≡ self.old) }
     {
         self.widen(node)?;
-        self.push_attr(node, attr)
+        self.push_attr(node, attr)?;
+        Ok(())
     }
 
     /// Adds an attribute after an element's others.
-    fn push_attr(&mut self, node: NodeId, attr: Attr) -> Result<(), Refusal>
+    fn push_attr(&mut self, node: NodeId, attr: Attr) -> Result<(), AllocError>
         requires { node < self.old.made }
         ensures ok { OnOk result (self.new ≡ record self.old { trees = add_attribute node (attribute_of attr) self.old.trees }) }
-        ensures memory { IfErr result (λ e. e ≡ Memory) }
         ensures err { OnErr result (self.new ≡ self.old) }
     {
         add_attr(
@@ -415,8 +405,7 @@ impl Tree {
             attr,
             &self.store,
             self.alloc,
-        )?;
-        Ok(())
+        )
     }
 
     /// Adds an attribute after an element's others, unless it has one of this name; does nothing to another node. Takes amortized
@@ -431,17 +420,16 @@ impl Tree {
         if self.has_attr(node, attr.name()) {
             return Ok(());
         }
-        self.push_attr(node, attr)
+        self.push_attr(node, attr)?;
+        Ok(())
     }
 
     /// Makes an index of the attributes of an element with more than a few.
-    fn widen(&mut self, node: NodeId) -> Result<(), Refusal>
+    fn widen(&mut self, node: NodeId) -> Result<(), AllocError>
         requires { node < self.old.made }
-        ensures same { self.new ≡ self.old }
-        ensures memory { IfErr result (λ e. e ≡ Memory) }
+        ensures { self.new ≡ self.old }
     {
-        index_content(&mut self.nodes[node.number as usize].content)?;
-        Ok(())
+        index_content(&mut self.nodes[node.number as usize].content)
     }
 
     /// Whether a node is another one or inside it, to be tested before a node moves. Takes as many steps as the node is deep.
@@ -558,9 +546,9 @@ impl Tree {
     {
         let (content, store) = self.content(node);
         match content {
-            NodeData::Text(run) => Some(store.text(*run)),
+            NodeData::Text(run) => Some(store.texts.get(*run)),
             NodeData::Long(text) => Some(text),
-            NodeData::Comment(run) => Some(store.text(*run)),
+            NodeData::Comment(run) => Some(store.texts.get(*run)),
             NodeData::LongComment(data) => Some(data),
             _ => None,
         }
@@ -573,7 +561,7 @@ impl Tree {
     {
         let (content, store) = self.content(node);
         match content {
-            NodeData::Text(run) => store.text(*run),
+            NodeData::Text(run) => store.texts.get(*run),
             NodeData::Long(text) => text,
             _ => "",
         }

@@ -7,4 +7,4 @@ pub returns-in_ok-content-in-None-clause-ok : goal.returns-in_ok-content-in-None
 returns-in_ok-content-in-None-clause-ok c =
     let long = c.in_ok-content-in-None.ensures c.lengthen.new.self in
     let held = grown-holds c.args.store.now c.lengthen.new.self (Text c.in-Text.run') c.lengthen.ensures.grown (subst (IsKept c.args.store.now) c.in-Text.is c.requires) in
-    (long.0, long.1 ∙ ap (λ bytes. text (bytes ++ c.args.more.now)) c.text.ensures ∙ ap (with_text c.args.more.now) held.1 ∙ ap (λ d. with_text c.args.more.now (content_is c.args.store.now d)) (sym c.in-Text.is))
+    (long.0, long.1 ∙ ap (λ bytes. text (bytes ++ c.args.more.now)) c.get.ensures ∙ ap (with_text c.args.more.now) held.1 ∙ ap (λ d. with_text c.args.more.now (content_is c.args.store.now d)) (sym c.in-Text.is))

@@ -1,18 +1,18 @@
-use Rattle.hnodes.proofs.IndexNames.{◌+◌, length, ◌∙◌, add-one, arith, length-set, map-set, link_number, group_of, ap, cond, eqb, set}
-use Rattle.hnodes.proofs.Relinked.{rewritten}
+use Rattle.hnodes.proofs.IndexNames.{◌+◌, length, sym, ◌∙◌, add-one, numbers_of, arith, length-set, map-set, link_number, group_of, ap, cond, eqb, set}
+use Rattle.hnodes.proofs.Relinked.{rewritten, set-known}
 use Rattle.hnodes.proofs.Edited.{In, in-differ, in-group-less, in-here, in-within, in-keeps}
 use Rattle.hnodes.proofs.relink.put_in.Goals as goal
 
 pub hint_at-requires : goal.hint_at-requires
 hint_at-requires c =
     let o : In c.args.last.now c.args.links.now c.args.index c.args.link =
-    record { indexed = c.requires.are_indexed.indexed; within = c.requires.within; free = c.requires.free; some = c.requires.number; fits = c.requires.fit } in
+    record { indexed = c.requires.are_indexed.indexed; within = c.requires.within; free = c.requires.free; some = c.if-link.false; fits = c.requires.fit c.if-link.false } in
     omega (arith, c.keep.auto.links, length-set c.args.links.now c.args.index c.args.link, in-within c.args.last.now c.args.links.now c.args.index c.args.link o)
 
 pub returns-clause-are_indexed : goal.returns-clause-are_indexed
 returns-clause-are_indexed c =
     let o : In c.args.last.now c.args.links.now c.args.index c.args.link =
-    record { indexed = c.requires.are_indexed.indexed; within = c.requires.within; free = c.requires.free; some = c.requires.number; fits = c.requires.fit } in
+    record { indexed = c.requires.are_indexed.indexed; within = c.requires.within; free = c.requires.free; some = c.if-link.false; fits = c.requires.fit c.if-link.false } in
     record {
       indexed =
           rewritten c.args.last.now c.args.links.now c.args.link (group_of c.args.link.number (length c.args.last.now)) c.args.index c.args.link.hint (c.args.index + 1) c.keep.new.last c.keep.new.links c.hint_at.new.links (record {
@@ -31,3 +31,6 @@ returns-clause-are_indexed c =
 
 pub returns-clause-numbers : goal.returns-clause-numbers
 returns-clause-numbers c = c.hint_at.ensures.numbers ∙ c.keep.ensures.numbers ∙ map-set link_number c.args.links.now c.args.index c.args.link
+
+pub returns-then-link-clause-numbers : goal.returns-then-link-clause-numbers
+returns-then-link-clause-numbers c = set-known (numbers_of c.args.links.now) c.args.index c.args.link.number (c.requires.free ∙ sym c.if-link.true)

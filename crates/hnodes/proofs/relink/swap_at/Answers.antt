@@ -1,67 +1,65 @@
-use Rattle.hnodes.proofs.IndexNames.{◌≡◌, ◌≢◌, ℕ, ◌+◌, List, get_or, set, sym, ◌∙◌, ap, arith, get_or-set_other, set-get_or, set_comm, none, numbers_of, Link}
-use Rattle.hnodes.proofs.Relinked.{nth, number-at, freed}
-use Rattle.hnodes.proofs.Swapped.{fit-down, fit-up}
+use Rattle.hnodes.proofs.IndexNames.{◌≡◌, ℕ, ◌+◌, ◌<◌, ◌≢◌, set, List, length, get_or, sym, ◌∙◌, ap, subst, arith, get_or-set_other, none, numbers_of, FitsAt, Link, group_of}
+use Rattle.hnodes.proofs.Groups.{group-of}
+use Rattle.hnodes.proofs.Relinked.{length-numbers, number-at, freed, set-known}
+use Rattle.hnodes.proofs.Swapped.{fit-down, fit-same, fit-other, exchanged}
 use Rattle.hnodes.proofs.relink.swap_at.Goals as goal
-
--- whether a number that was read is none
-is-none : (links : List Link) (i : ℕ) → (nth links i).number ≡ none → get_or (numbers_of links) i 0 ≡ none
-is-none links i e = number-at links i ∙ e
-
-is-some : (links : List Link) (i : ℕ) → (nth links i).number ≢ none → get_or (numbers_of links) i 0 ≢ none
-is-some links i ne e = ne (sym (number-at links i) ∙ e)
-
-pub returns-then-first-second-clause-numbers : goal.returns-then-first-second-clause-numbers
-returns-then-first-second-clause-numbers c =
-    let links : List Link = c.args.links.now in
-    let old : List ℕ = numbers_of links in
-    let i : ℕ = c.args.index in
-    let same : get_or old i 0 ≡ get_or old (i + 1) 0 = number-at links i ∙ c.if-first-second.true ∙ sym (number-at links (i + 1)) in
-    sym (ap (λ n. set (set old i n) (i + 1) (get_or old i 0)) (sym same) ∙ ap (λ ns. set ns (i + 1) (get_or old i 0)) (set-get_or old i 0)
-    ∙ ap (λ n. set old (i + 1) n) same ∙ set-get_or old (i + 1) 0)
-
-pub exchange-requires-clause-first : goal.exchange-requires-clause-first
-exchange-requires-clause-first c = is-some c.args.links.now c.args.index c.if-first.false
-
-pub exchange-requires-clause-second : goal.exchange-requires-clause-second
-exchange-requires-clause-second c = is-some c.args.links.now (c.args.index + 1) c.if-second.false
-
-pub returns-then-first-clause-numbers : goal.returns-then-first-clause-numbers
-returns-then-first-clause-numbers c =
-    let old : List ℕ = numbers_of c.args.links.now in
-    let i : ℕ = c.args.index in
-    let ne : i + 1 ≢ i = omega arith in
-    c.put_in.ensures.numbers ∙ ap (λ ys. set ys i c.take_out-link.result.number) c.take_out-link.ensures.numbers ∙ set_comm old (i + 1) i none c.take_out-link.result.number ne
-    ∙ (λ t. set (set old i (c.take_out-link.ensures.number t)) (i + 1) (sym (number-at c.args.links.now i ∙ c.if-first.true) t))
+use Rattle.hnodes.proofs.relink.swap_at.Goals.{then-same, else-same}
 
 pub put_in-requires-clause-fit : goal.put_in-requires-clause-fit
-put_in-requires-clause-fit c =
-    fit-down _ (numbers_of c.take_out-link.new.links) c.args.index c.take_out-link.result
-    (freed c.args.links.now (numbers_of c.take_out-link.new.links) (c.args.index + 1) c.take_out-link.ensures.numbers c.requires.within) c.take_out-link.ensures.fit
-
--- where nothing is at the next index, nothing is there after the number at the index is out
-still-none : (links : List Link) (ys : List ℕ) (i : ℕ) → ys ≡ set (numbers_of links) i none → (nth links (i + 1)).number ≡ none → get_or ys (i + 1) 0 ≡ none
-still-none links ys i is e =
-    let ne : i + 1 ≢ i = omega arith in
-    ap (λ ns. get_or ns (i + 1) 0) is ∙ get_or-set_other (numbers_of links) i (i + 1) none 0 ne ∙ is-none links (i + 1) e
-
-pub put_in-requires-then-second-clause-free : goal.put_in-requires-then-second-clause-free
-put_in-requires-then-second-clause-free c =
-    still-none c.args.links.now (numbers_of c.take_out-link-then-second.new.links) c.args.index c.take_out-link-then-second.ensures.numbers c.if-second.true
-
-pub put_in-requires-then-second-clause-fit : goal.put_in-requires-then-second-clause-fit
-put_in-requires-then-second-clause-fit c =
-    fit-up _ (numbers_of c.take_out-link-then-second.new.links) c.args.index c.take_out-link-then-second.result
-    (still-none c.args.links.now (numbers_of c.take_out-link-then-second.new.links) c.args.index c.take_out-link-then-second.ensures.numbers c.if-second.true) c.take_out-link-then-second.ensures.fit
+put_in-requires-clause-fit c = λ some.
+    fit-down _ (numbers_of c.take_out-second.new.links) c.args.index c.take_out-second.result
+    (freed c.take_out-first.new.links (numbers_of c.take_out-second.new.links) (c.args.index + 1) c.take_out-second.ensures.numbers (omega (arith, c.take_out-first.auto.links, c.requires.within)))
+    (c.take_out-second.ensures.fit some)
 
 pub put_in-requires-clause-free : goal.put_in-requires-clause-free
 put_in-requires-clause-free c =
-    let ne : c.args.index ≢ c.args.index + 1 = omega arith in
-    ap (λ ns. get_or ns c.args.index 0) c.take_out-link.ensures.numbers ∙ get_or-set_other (numbers_of c.args.links.now) (c.args.index + 1) c.args.index none 0 ne
-    ∙ is-none c.args.links.now c.args.index c.if-first.true
+    let i = c.args.index in
+    let ne : i ≢ i + 1 = omega arith in
+    ap (λ ys. get_or ys i 0) c.take_out-second.ensures.numbers ∙ get_or-set_other (numbers_of c.take_out-first.new.links) (i + 1) i none 0 ne
+    ∙ freed c.args.links.now (numbers_of c.take_out-first.new.links) i c.take_out-first.ensures.numbers (omega (arith, c.requires.within))
 
-pub returns-then-second-clause-numbers : goal.returns-then-second-clause-numbers
-returns-then-second-clause-numbers c =
-    let old : List ℕ = numbers_of c.args.links.now in
+pub put_in-requires-2-clause-free : goal.put_in-requires-2-clause-free
+put_in-requires-2-clause-free c =
+    let i = c.args.index in
+    let ne : i + 1 ≢ i = omega arith in
+    ap (λ ys. get_or ys (i + 1) 0) c.put_in.ensures.numbers ∙ get_or-set_other (numbers_of c.take_out-second.new.links) i (i + 1) c.take_out-second.result.number 0 ne
+    ∙ freed c.take_out-first.new.links (numbers_of c.take_out-second.new.links) (i + 1) c.take_out-second.ensures.numbers (omega (arith, c.take_out-first.auto.links, c.requires.within))
+
+pub put_in-requires-2-clause-fit : goal.put_in-requires-2-clause-fit
+put_in-requires-2-clause-fit c = λ some.
+    let i = c.args.index in
+    let xs : List ℕ = numbers_of c.args.links.now in
+    let ys1 : List ℕ = numbers_of c.take_out-first.new.links in
+    let ys2 : List ℕ = numbers_of c.take_out-second.new.links in
+    let ys3 : List ℕ = numbers_of c.put_in.new.links in
+    let w = length c.put_in.new.last in
+    let first : Link = c.take_out-first.result in
+    let second : Link = c.take_out-second.result in
+    let within : i + 1 < length xs = omega (arith, c.requires.within, length-numbers c.args.links.now) in
+    elim c.if-same.branch [
+      | then-same b ↦
+          let group = group-of w (group_of first.number w) second.number (sym c.is_grouped-same.ensures ∙ b.if-same.true) in
+          rw b.link-is (fit-same w i xs ys1 ys2 ys3 first second c.take_out-first.ensures.numbers c.take_out-second.ensures.numbers c.put_in.ensures.numbers within c.take_out-second.ensures.number
+          group.0 (subst (λ (n : ℕ). FitsAt n ys2 (i + 1) second) (sym c.put_in.auto.last) (c.take_out-second.ensures.fit group.0)) (sym group.1))
+      | else-same b ↦
+          rw b.link-is (fit-other w i xs ys1 ys2 ys3 first second c.take_out-first.ensures.numbers c.take_out-second.ensures.numbers c.put_in.ensures.numbers within c.take_out-second.ensures.number
+          (subst (λ (n : ℕ). FitsAt n ys1 i first) (sym (c.put_in.auto.last ∙ c.take_out-second.auto.last)) (c.take_out-first.ensures.fit (λ e. some (ap (λ x. x.number) b.link-is ∙ e)))) (sym c.is_grouped-same.ensures ∙ b.if-same.false))
+    ]
+
+pub returns-clause-numbers : goal.returns-clause-numbers
+returns-clause-numbers c =
+    let i = c.args.index in
+    let first : ℕ = c.take_out-first.result.number in
+    let is : c.if-same.link.number ≡ first = elim c.if-same.branch [ then-same b ↦ ap (λ x. x.number) b.link-is | else-same b ↦ ap (λ x. x.number) b.link-is ] in
+    c.put_in-2.ensures.numbers ∙ ap (λ n. set (numbers_of c.put_in.new.links) (i + 1) n) is
+    ∙ exchanged (length c.put_in.new.last) i (numbers_of c.args.links.now) (numbers_of c.take_out-first.new.links) (numbers_of c.take_out-second.new.links) (numbers_of c.put_in.new.links) c.take_out-first.result
+    c.take_out-second.result c.take_out-first.ensures.numbers c.take_out-second.ensures.numbers c.put_in.ensures.numbers (omega (arith, c.requires.within, length-numbers c.args.links.now)) c.take_out-second.ensures.number
+    c.take_out-first.ensures.number
+
+pub returns-then-low-high-clause-numbers : goal.returns-then-low-high-clause-numbers
+returns-then-low-high-clause-numbers c =
+    let links : List Link = c.args.links.now in
+    let old : List ℕ = numbers_of links in
     let i : ℕ = c.args.index in
-    c.put_in-then-second.ensures.numbers ∙ ap (λ ys. set ys (i + 1) c.take_out-link-then-second.result.number) c.take_out-link-then-second.ensures.numbers
-    ∙ (λ t. set (set old i (sym (is-none c.args.links.now (i + 1) c.if-second.true) t)) (i + 1) (c.take_out-link-then-second.ensures.number t))
+    let same : get_or old i 0 ≡ get_or old (i + 1) 0 = number-at links i ∙ c.if-low-high.true ∙ sym (number-at links (i + 1)) in
+    set-known old (i + 1) (get_or old i 0) (sym same) ∙ ap (λ ns. set ns (i + 1) (get_or old i 0)) (set-known old i (get_or old (i + 1) 0) same)

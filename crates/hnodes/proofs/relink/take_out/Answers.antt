@@ -1,16 +1,16 @@
 use Rattle.hnodes.proofs.IndexNames.{◌≡◌, ℕ, List, length, set, refl, sym, ◌∙◌, subst, arith, length-set, map-set, none, link_number, numbers_of, FitsAt, Link, group_of, ap, cond, eqb}
-use Rattle.hnodes.proofs.Relinked.{nth, rewritten, number-at}
+use Rattle.hnodes.proofs.Relinked.{nth, rewritten, number-at, is-some, set-known}
 use Rattle.hnodes.proofs.Edited.{Out, out-differ, out-group, out-before, out-within, out-fit}
 use Rattle.hnodes.proofs.relink.take_out.Goals as goal
 
 pub hint_at-requires : goal.hint_at-requires
 hint_at-requires c =
-    let o : Out c.args.last.now c.args.links.now c.args.index c.above-hint.result = record { indexed = c.requires.are_indexed.indexed; within = c.requires.within; some = c.requires.number; next_is = c.above-hint.ensures } in
+    let o : Out c.args.last.now c.args.links.now c.args.index c.above-hint.result = record { indexed = c.requires.are_indexed.indexed; within = c.requires.within; some = is-some c.args.links.now c.args.index c.if-number.false; next_is = c.above-hint.ensures } in
     omega (arith, c.keep.auto.links, length-set c.args.links.now c.args.index (record { number = 1; before = 0; hint = 0 }), out-within c.args.last.now c.args.links.now c.args.index c.above-hint.result o)
 
 pub returns-clause-are_indexed : goal.returns-clause-are_indexed
 returns-clause-are_indexed c =
-    let o : Out c.args.last.now c.args.links.now c.args.index c.above-hint.result = record { indexed = c.requires.are_indexed.indexed; within = c.requires.within; some = c.requires.number; next_is = c.above-hint.ensures } in
+    let o : Out c.args.last.now c.args.links.now c.args.index c.above-hint.result = record { indexed = c.requires.are_indexed.indexed; within = c.requires.within; some = is-some c.args.links.now c.args.index c.if-number.false; next_is = c.above-hint.ensures } in
     let old : Link = nth c.args.links.now c.args.index in
     record {
       indexed =
@@ -33,14 +33,26 @@ pub returns-clause-numbers : goal.returns-clause-numbers
 returns-clause-numbers c = c.hint_at.ensures.numbers ∙ c.keep.ensures.numbers ∙ map-set link_number c.args.links.now c.args.index (record { number = 1; before = 0; hint = 0 })
 
 pub returns-clause-fit : goal.returns-clause-fit
-returns-clause-fit c =
+returns-clause-fit c = λ some.
     let x : Link = record { number = (nth c.args.links.now c.args.index).number; before = (nth c.args.links.now c.args.index).before; hint = c.above-hint.result } in
     let ys : numbers_of c.hint_at.new.links ≡ set (numbers_of c.args.links.now) c.args.index none =
     c.hint_at.ensures.numbers ∙ c.keep.ensures.numbers ∙ map-set link_number c.args.links.now c.args.index (record { number = 1; before = 0; hint = 0 }) in
     subst (λ (w : ℕ). FitsAt w (numbers_of c.hint_at.new.links) c.args.index x) (sym c.keep.auto.last)
     (subst (λ (ns : List ℕ). FitsAt (length c.args.last.now) ns c.args.index x) (sym ys)
     (out-fit c.args.last.now c.args.links.now c.args.index c.above-hint.result
-    (record { indexed = c.requires.are_indexed.indexed; within = c.requires.within; some = c.requires.number; next_is = c.above-hint.ensures })))
+    (record { indexed = c.requires.are_indexed.indexed; within = c.requires.within; some = is-some c.args.links.now c.args.index c.if-number.false; next_is = c.above-hint.ensures })))
 
 pub returns-clause-number : goal.returns-clause-number
 returns-clause-number c = sym (number-at c.args.links.now c.args.index)
+
+pub above-hint-requires-clause-number : goal.above-hint-requires-clause-number
+above-hint-requires-clause-number c = is-some c.args.links.now c.args.index c.if-number.false
+
+pub returns-then-number-clause-number : goal.returns-then-number-clause-number
+returns-then-number-clause-number c = sym (number-at c.args.links.now c.args.index)
+
+pub returns-then-number-clause-numbers : goal.returns-then-number-clause-numbers
+returns-then-number-clause-numbers c = set-known (numbers_of c.args.links.now) c.args.index none (number-at c.args.links.now c.args.index ∙ c.if-number.true)
+
+pub returns-then-number-clause-fit : goal.returns-then-number-clause-fit
+returns-then-number-clause-fit c = λ some. absurd (some c.if-number.true)

@@ -1,28 +1,16 @@
-use Rattle.hnodes.proofs.Names.{err_from_is_err_and, refl, with_attribute, attribute_of}
+use Rattle.hnodes.proofs.Names.{refl, with_attribute, attribute_of}
 use Rattle.hnodes.proofs.Stored.{same-grown}
-use Rattle.hnodes.proofs.Opened.{opened, became, became_view, kept_there, stayed, stayed_view, written, unwritten}
+use Rattle.hnodes.proofs.Opened.{opened, kept_there, tried, tried_ok, tried_err}
 use Rattle.hnodes.proofs.tree.Tree.push_attr.Goals as goal
 
 pub add_attr-requires : goal.add_attr-requires
 add_attr-requires c = kept_there c.self.inside c.args.self.now c.self.inside.store c.args.node _ c.index_mut.result.now c.index_mut.result.now.content (opened c.self.inside c.args.self.now c.self.view_is c.self.invariant) (same-grown c.self.inside.store) c.requires c.node.view_is c.index_mut.ensures.value
 
 pub invariant_of-self : goal.invariant_of-self
-invariant_of-self c =
-    stayed c.self.inside c.args.self.now c.self.inside.store _ (opened c.self.inside c.args.self.now c.self.view_is c.self.invariant)
-    (unwritten c.self.inside c.args.self.now c.self.inside.store c.args.node _ c.index_mut.result.now _ (opened c.self.inside c.args.self.now c.self.view_is c.self.invariant) (same-grown c.self.inside.store) c.requires c.node.view_is c.index_mut.ensures.value c.in_err-add_attr.ensures.err)
-
-pub invariant_of-self-2 : goal.invariant_of-self-2
-invariant_of-self-2 c =
-    became c.self.inside c.args.self.now c.self.inside.store _ c.args.node (with_attribute (attribute_of c.args.attr)) (opened c.self.inside c.args.self.now c.self.view_is c.self.invariant) refl
-    (written c.self.inside c.args.self.now c.self.inside.store c.args.node _ c.index_mut.result.now _ (opened c.self.inside c.args.self.now c.self.view_is c.self.invariant) (same-grown c.self.inside.store) c.requires c.node.view_is c.index_mut.ensures.value (with_attribute (attribute_of c.args.attr)) c.in_ok-add_attr.ensures.ok)
+invariant_of-self c = tried c.self.inside c.args.self.now c.self.inside.store c.args.node _ c.index_mut.result.now _ (opened c.self.inside c.args.self.now c.self.view_is c.self.invariant) (same-grown c.self.inside.store) c.requires c.node.view_is c.index_mut.ensures.value (with_attribute (attribute_of c.args.attr)) c.add_attr.result refl c.add_attr.ensures.ok c.add_attr.ensures.err
 
 pub returns-clause-ok : goal.returns-clause-ok
-returns-clause-ok c =
-    became_view c.self.inside c.args.self.now c.self.inside.store _ c.args.node (with_attribute (attribute_of c.args.attr)) (opened c.self.inside c.args.self.now c.self.view_is c.self.invariant)
-    (written c.self.inside c.args.self.now c.self.inside.store c.args.node _ c.index_mut.result.now _ (opened c.self.inside c.args.self.now c.self.view_is c.self.invariant) (same-grown c.self.inside.store) c.requires c.node.view_is c.index_mut.ensures.value (with_attribute (attribute_of c.args.attr)) c.in_ok-add_attr.ensures.ok)
+returns-clause-ok c = tried_ok c.self.inside c.args.self.now c.self.inside.store c.args.node _ c.index_mut.result.now _ (opened c.self.inside c.args.self.now c.self.view_is c.self.invariant) (same-grown c.self.inside.store) c.requires c.node.view_is c.index_mut.ensures.value (with_attribute (attribute_of c.args.attr)) c.add_attr.result c.add_attr.ensures.ok
 
-pub returns-in_err-add_attr-clause-err : goal.returns-in_err-add_attr-clause-err
-returns-in_err-add_attr-clause-err c =
-    let p = err_from_is_err_and c.from_residual.result c.from_residual.ensures.1 in
-    rw p.1 (stayed_view c.self.inside c.args.self.now c.self.inside.store _ (opened c.self.inside c.args.self.now c.self.view_is c.self.invariant)
-    (unwritten c.self.inside c.args.self.now c.self.inside.store c.args.node _ c.index_mut.result.now _ (opened c.self.inside c.args.self.now c.self.view_is c.self.invariant) (same-grown c.self.inside.store) c.requires c.node.view_is c.index_mut.ensures.value c.in_err-add_attr.ensures.err))
+pub returns-clause-err : goal.returns-clause-err
+returns-clause-err c = tried_err c.self.inside c.args.self.now c.self.inside.store c.args.node _ c.index_mut.result.now _ (opened c.self.inside c.args.self.now c.self.view_is c.self.invariant) (same-grown c.self.inside.store) c.requires c.node.view_is c.index_mut.ensures.value (with_attribute (attribute_of c.args.attr)) c.add_attr.result c.add_attr.ensures.err

@@ -9,8 +9,8 @@ returns-then-is_empty-clause-ok c = put-nothing c.args.text.now c.args.place c.a
 pub insert-requires-clause-place : goal.insert-requires-clause-place
 insert-requires-clause-place c = rw c.in_ok-node-in-None.ensures.ok (place-made c.args.place c.args.self.now (text c.args.text.now) c.requires)
 
-pub returns-in-Some-clause-ok : goal.returns-in-Some-clause-ok
-returns-in-Some-clause-ok c = rw (← put-joins c.args.text.now c.args.place c.args.self.now c.in-Some.before c.utf8.text (sym c.text_before.ensures.text ∙ c.in-Some.is)) c.join.ensures.ok
+pub returns-in_ok-join-in-Some-clause-ok : goal.returns-in_ok-join-in-Some-clause-ok
+returns-in_ok-join-in-Some-clause-ok c = rw (← put-joins c.args.text.now c.args.place c.args.self.now c.in-Some.before c.utf8.text (sym c.text_before.ensures.text ∙ c.in-Some.is)) c.in_ok-join-in-Some.ensures.ok
 
 pub returns-in_ok-node-in-None-clause-ok : goal.returns-in_ok-node-in-None-clause-ok
 returns-in_ok-node-in-None-clause-ok c =

@@ -8,20 +8,8 @@ invariant_of-self c =
     (unwritten c.self.inside c.args.self.now c.self.inside.store c.args.node _ c.index_mut.result.now _ (opened c.self.inside c.args.self.now c.self.view_is c.self.invariant) (same-grown c.self.inside.store) c.requires c.node.view_is c.index_mut.ensures.value
     (c.index_content.ensures c.self.inside.store (kept_there c.self.inside c.args.self.now c.self.inside.store c.args.node _ c.index_mut.result.now c.index_mut.result.now.content (opened c.self.inside c.args.self.now c.self.view_is c.self.invariant) (same-grown c.self.inside.store) c.requires c.node.view_is c.index_mut.ensures.value)))
 
-pub invariant_of-self-2 : goal.invariant_of-self-2
-invariant_of-self-2 c =
-    stayed c.self.inside c.args.self.now c.self.inside.store _ (opened c.self.inside c.args.self.now c.self.view_is c.self.invariant)
-    (unwritten c.self.inside c.args.self.now c.self.inside.store c.args.node _ c.index_mut.result.now _ (opened c.self.inside c.args.self.now c.self.view_is c.self.invariant) (same-grown c.self.inside.store) c.requires c.node.view_is c.index_mut.ensures.value
-    (c.index_content.ensures c.self.inside.store (kept_there c.self.inside c.args.self.now c.self.inside.store c.args.node _ c.index_mut.result.now c.index_mut.result.now.content (opened c.self.inside c.args.self.now c.self.view_is c.self.invariant) (same-grown c.self.inside.store) c.requires c.node.view_is c.index_mut.ensures.value)))
-
-pub returns-in_err-index_content-clause-same : goal.returns-in_err-index_content-clause-same
-returns-in_err-index_content-clause-same c =
-    stayed_view c.self.inside c.args.self.now c.self.inside.store _ (opened c.self.inside c.args.self.now c.self.view_is c.self.invariant)
-    (unwritten c.self.inside c.args.self.now c.self.inside.store c.args.node _ c.index_mut.result.now _ (opened c.self.inside c.args.self.now c.self.view_is c.self.invariant) (same-grown c.self.inside.store) c.requires c.node.view_is c.index_mut.ensures.value
-    (c.index_content.ensures c.self.inside.store (kept_there c.self.inside c.args.self.now c.self.inside.store c.args.node _ c.index_mut.result.now c.index_mut.result.now.content (opened c.self.inside c.args.self.now c.self.view_is c.self.invariant) (same-grown c.self.inside.store) c.requires c.node.view_is c.index_mut.ensures.value)))
-
-pub returns-clause-same : goal.returns-clause-same
-returns-clause-same c =
+pub returns : goal.returns
+returns c =
     stayed_view c.self.inside c.args.self.now c.self.inside.store _ (opened c.self.inside c.args.self.now c.self.view_is c.self.invariant)
     (unwritten c.self.inside c.args.self.now c.self.inside.store c.args.node _ c.index_mut.result.now _ (opened c.self.inside c.args.self.now c.self.view_is c.self.invariant) (same-grown c.self.inside.store) c.requires c.node.view_is c.index_mut.ensures.value
     (c.index_content.ensures c.self.inside.store (kept_there c.self.inside c.args.self.now c.self.inside.store c.args.node _ c.index_mut.result.now c.index_mut.result.now.content (opened c.self.inside c.args.self.now c.self.view_is c.self.invariant) (same-grown c.self.inside.store) c.requires c.node.view_is c.index_mut.ensures.value)))
