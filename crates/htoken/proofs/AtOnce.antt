@@ -1,5 +1,5 @@
 -- Tags that stand whole in a run.
-use Rattle.htoken.proofs.Names.{◌≡◌, ◌≤◌, ◌<◌, ℕ, suc, ◌+◌, ◌-◌, true, false, ◌||◌, List, [], ◌∷◌, ◌++◌, length, take, drop, sym, refl, ap, ◌∙◌, subst, Result, Ok, Err, Option, Some, None, append-nil, arith, length-take-le, chars-nil, codes, is_some, slice_get, slice_index, list_all, chars, IsUtf8, ParseError, Placed, RawKind, RefusedName, Refusal, Memory, Texts, Grows, name_bytes, placed, raw_kind, refused_name, tag_named, is_plain_byte, IsCut, plain_chars, hand_one, Entities, IsInTag, State, Tokenizer, IsSpanOf, next, TakesPart, IsTag, start_tag, end_tag, tag_mark, Tok, Span, Start, End, Item, ItemToken, Event, HandedMeans, gives_item, has_refused, Reads, HasTaken, holds, Takes, take_took, IsHeld, IsLast, less, next_place, slice_range, IsBareName, bare_bytes, bare_front, bare_no_errors, bare_placed, bare_plain, bare_within, tag, get_or, get_or-append_seam, IsCharBoundary, Handed, IsTagName, IsStateOf, named_plain, named_within}
+use Rattle.htoken.proofs.Names.{◌≡◌, ◌≤◌, ◌<◌, ℕ, suc, ◌+◌, ◌-◌, true, false, ◌||◌, List, [], ◌∷◌, ◌++◌, length, take, drop, sym, refl, ap, ◌∙◌, subst, Result, Ok, Err, Option, Some, None, append-nil, arith, length-take-le, chars-nil, codes, is_some, slice_get, slice_index, list_all, chars, IsUtf8, ParseError, Placed, RawKind, RefusedName, Refusal, Memory, Texts, Grows, name_bytes, placed, raw_kind, refused_name, tag_named, is_plain_byte, IsCut, plain_chars, hand_one, Entities, IsInTag, State, Tokenizer, IsSpanOf, next, TakesPart, IsTag, start_tag, end_tag, tag_mark, Tok, Span, Start, End, Item, ItemToken, Event, HandedMeans, gives_item, has_refused, Reads, HasTaken, holds, Takes, take_took, IsHeld, IsLast, less, after_last, slice_range, IsBareName, bare_bytes, bare_front, bare_no_errors, bare_placed, bare_plain, bare_within, tag, get_or, get_or-append_seam, IsCharBoundary, Handed, IsTagName, IsStateOf, named_plain, named_within}
 use Rattle.std.proofs.lemmas.Str.{IsCharBoundary-before_ascii}
 use Rattle.names.specs.declared.raw.RawKind.TheVariants as kind
 use Rattle.htoken.specs.declared.state.State.TheVariants as state
@@ -21,11 +21,11 @@ module _ (n : ℕ) (run : List ℕ) (within : n ≤ length run) (plain : list_al
   pub plain_taken : chars (take n run) ≡ take n run
   plain_taken = plain_chars (take n run) plain plain_cut.front
 
-  pub plain_next : (text : List Placed) (at : ℕ) → 0 < n → at + length run ≤ 0xFFFFFFFFFFFFFFFF → at + n ≡ next_place (text ++ placed at (chars (take n run)))
+  pub plain_next : (text : List Placed) (at : ℕ) → 0 < n → at + length run ≤ 0xFFFFFFFFFFFFFFFF → at + n ≡ after_last (text ++ placed at (chars (take n run)))
   plain_next text at some room =
       let long : length (take n run) ≡ n = length-take-le n run within in
-      ap (λ (k : ℕ). at + k) (sym long) ∙ sym (next_run text at (take n run) plain (omega (arith, some, long)) (omega (arith, long, within, room)))
-      ∙ ap (λ (x : List ℕ). next_place (text ++ placed at x)) (sym plain_taken)
+      ap (λ (k : ℕ). at + k) (sym long) ∙ next_run text at (take n run) (plain_ascii (take n run) plain) (omega (arith, some, long)) (omega (arith, long, within, room))
+      ∙ ap (λ (x : List ℕ). after_last (text ++ placed at x)) (sym plain_taken)
 
 -- the first byte of a run, and the bytes after it
 pub first_is : {c : ℕ} (run : List ℕ) → 0 < length run → slice_index run 0 ≡ c → run ≡ c ∷ drop 1 run
@@ -67,7 +67,7 @@ module _ (run : List ℕ) (size : ℕ) (u : IsUtf8 run) (bare : IsBareName run s
   start_placed : (at : ℕ) → placed at (chars (take (size + 1) run)) ≡ placed at (bare.letter ∷ bare.letters) ++ record { ch = 62; at = at + size } ∷ []
   start_placed at = ap (placed at) (plain_taken (size + 1) run (bare_within run size bare) (bare_plain run size bare) u) ∙ bare_placed run size bare at
 
-  start_next : (text : List Placed) (at : ℕ) → at + length run ≤ 0xFFFFFFFFFFFFFFFF → at + size + 1 ≡ next_place (text ++ placed at (chars (take (size + 1) run)))
+  start_next : (text : List Placed) (at : ℕ) → at + length run ≤ 0xFFFFFFFFFFFFFFFF → at + size + 1 ≡ after_last (text ++ placed at (chars (take (size + 1) run)))
   start_next text at room =
       let one : at + size + 1 ≡ at + (size + 1) = omega arith in
       one ∙ plain_next (size + 1) run (bare_within run size bare) (bare_plain run size bare) u text at (omega arith) room
@@ -88,7 +88,7 @@ module _ (run rest : List ℕ) (size : ℕ) (u : IsUtf8 run) (run_is : run ≡ 4
   end_placed : (at : ℕ) → placed at (chars (take (size + 2) run)) ≡ record { ch = 47; at = at } ∷ placed (at + 1) (bare.letter ∷ bare.letters) ++ record { ch = 62; at = at + 1 + size } ∷ []
   end_placed at = ap (placed at) (plain_taken (size + 2) run end_within end_plain u ∙ end_bytes) ∙ ap (λ (x : List Placed). record { ch = 47; at = at } ∷ x) (bare_placed rest size bare (at + 1))
 
-  end_next : (text : List Placed) (at : ℕ) → at + length run ≤ 0xFFFFFFFFFFFFFFFF → at + size + 2 ≡ next_place (text ++ placed at (chars (take (size + 2) run)))
+  end_next : (text : List Placed) (at : ℕ) → at + length run ≤ 0xFFFFFFFFFFFFFFFF → at + size + 2 ≡ after_last (text ++ placed at (chars (take (size + 2) run)))
   end_next text at room =
       let two : at + size + 2 ≡ at + (size + 2) = omega arith in
       two ∙ plain_next (size + 2) run end_within end_plain u text at (omega arith) room
@@ -114,7 +114,7 @@ module _ (table : Entities) (start : RawKind) (t : Tokenizer) (names : Texts) (t
     here_data : h.here.kind ≡ kind.None
     here_data = kind_in h state.TagOpen tag_open
 
-    less_ahead : (fed : List Placed) (place : ℕ) → place ≡ next_place (text ++ fed) → Reads table start (record t { next = place }) names text fed taken
+    less_ahead : (fed : List Placed) (place : ℕ) → place ≡ after_last (text ++ fed) → Reads table start (record t { next = place }) names text fed taken
     less_ahead fed place is =
         reads_as h (record t { next = place }) names fed taken refl refl is (λ end more. h.stands end (fed ++ more)) refl h.name_is h.is_in (subst (λ (s : State). IsHeld s table names h.here (record t { next = place }) h.held fed) (sym tag_open) held_less)
 
@@ -125,7 +125,7 @@ module _ (table : Entities) (start : RawKind) (t : Tokenizer) (names : Texts) (t
 
       tag_given : {S : Type 0} (gives : S → ParseError → Result (Unit {0}) Refusal → S → Type 0) (gives_token : S → Handed → Result (Unit {0}) Refusal → S → Type 0) → has_refused (tok ∷ []) ≡ false
           → (next h.here (record { text = less t ∷ fed; tokens = tok ∷ []; errors = [] })).kind ≡ kind.None
-          → (new : Tokenizer) → new ≡ record t { next = new.next; state = state.Text; last = new.last } → new.next ≡ next_place (text ++ fed) → IsLast names new.last (next h.here (record { text = less t ∷ fed; tokens = tok ∷ []; errors = [] })).name
+          → (new : Tokenizer) → new ≡ record t { next = new.next; state = state.Text; last = new.last } → new.next ≡ after_last (text ++ fed) → IsLast names new.last (next h.here (record { text = less t ∷ fed; tokens = tok ∷ []; errors = [] })).name
           → (token : Handed) → HandedMeans names token tok → (old s : S) (answer : Result (Unit {0}) Refusal) → gives_token old token answer s → Takes (gives_item gives gives_token) table start text fed taken names old answer s new
       unfolding less_ahead reads_as
       tag_given gives gives_token allowed to_data new then place last token means old s answer given =

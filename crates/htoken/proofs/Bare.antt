@@ -1,14 +1,14 @@
 -- An `&` that is text, and a whole reference, as a run shows them.
-use Rattle.htoken.proofs.Names.{◌≡◌, ◌≤◌, ◌<◌, ℕ, zero, suc, ◌+◌, ◌-◌, Bool, true, false, eqb, ◌&&◌, ◌||◌, List, [], ◌∷◌, ◌++◌, map, length, take, drop, reverse, sym, refl, ap, ◌∙◌, subst, arith, append_assoc, append-nil, Result, Ok, Err, Option, slice_index, list_all, prefix_len, is_ascii, len_utf8, encode_utf8, chars, IsUtf8, and_from, nat_tests, get_or-drop, length-append, length-drop, length-take-le, take-append-drop, take_all, take_at, drop_at, chars-IsAscii, encode_ascii, len_utf8_ascii, IsUtf8-from_ascii, prefix_len-le-length, prefix_len_stops, drop-length, UnknownNamedCharacterReference, ParseError, Placed, RawKind, Refusal, Texts, all, begins, past, is_alphanumeric, placed, error_if, Reference, IsRead, errors_of, characters_of, Entities, Piece, IsReference, IsTable, alone, ampersand, is_plain_byte, is_text_byte, IsCut, list_all-append, all_placed, cut_more, Tokenizer, all_at, bare_errors, first_placed, IsBare, IsFront, IsWhole, known_errors, piece_events, HandsEvents, has_references, Standing, run_events, Item, Event, Gives, Reports, Char, AreFront, after_place, holds, later_errors, next_place, IsBetween, IsLast, Reads, Stands, Takes, take_sink_refused, take_took, backwards, reverse-append, IsAscii-take, IsAscii-drop, get_or-append_seam, counted, take_more, and_parts, all-characters, characters_placed}
+use Rattle.htoken.proofs.Names.{◌≡◌, ◌≤◌, ◌<◌, ℕ, zero, suc, ◌+◌, ◌-◌, Bool, true, false, eqb, ◌&&◌, ◌||◌, List, [], ◌∷◌, ◌++◌, map, length, take, drop, reverse, sym, refl, ap, ◌∙◌, subst, arith, append_assoc, append-nil, Result, Ok, Err, slice_index, list_all, prefix_len, is_ascii, chars, IsUtf8, and_from, nat_tests, get_or-drop, length-append, length-drop, length-take-le, take-append-drop, take_all, take_at, drop_at, prefix_len-le-length, prefix_len_stops, UnknownNamedCharacterReference, ParseError, Placed, RawKind, Refusal, Texts, all, begins, past, is_alphanumeric, placed, error_if, Reference, IsRead, errors_of, characters_of, Entities, Piece, IsReference, IsTable, alone, ampersand, is_text_byte, IsCut, list_all-append, all_placed, Tokenizer, all_at, bare_errors, first_placed, IsBare, IsFront, IsWhole, known_errors, piece_events, HandsEvents, has_references, Standing, run_events, Item, Event, Gives, Reports, Char, after_place, later_errors, after_last, Reads, Stands, Takes, take_sink_refused, backwards, reverse-append, get_or-append_seam, counted, take_more, and_parts, all-characters, characters_placed, IsTakenFront, placed_more}
 use Rattle.htoken.specs.declared.state.State.TheVariants as state
 use Rattle.htoken.proofs.AfterRun.{later_same}
-use Rattle.htag.proofs.Ascii.{ascii_chars, ascii_placed, each_ascii}
+use Rattle.htag.proofs.Ascii.{ascii_chars, ascii_placed, ascii_taken}
+use Rattle.htag.proofs.QuietValues.{length-placed}
 use Rattle.htoken.proofs.Fronts.{takes_both}
-use Rattle.htoken.proofs.Going.{next_place-snoc}
-use Rattle.htoken.proofs.InReference.{same_between}
-use Rattle.htoken.proofs.InRun.{next_last}
-use Rattle.htoken.proofs.InText.{text_events, all_ascii, length_left, unknown_is}
-use Rattle.htoken.proofs.Reading.{held_in, reads_front, reads_text}
+use Rattle.htoken.proofs.Going.{after_last-snoc}
+use Rattle.htoken.proofs.InReference.{no_script}
+use Rattle.htoken.proofs.InRun.{next_ascii}
+use Rattle.htoken.proofs.InText.{text_events, all_ascii, length_left, unknown_is, begun_taken, begun_left, begun_cut, begun_text, begun_first, front_reads, run_front, all_taken}
 use Rattle.htoken.proofs.Pending.{later_told}
 use Rattle.htoken.proofs.Referring.{run_errors, stands_piece}
 
@@ -44,10 +44,6 @@ alone_bare table kind (a ∷ b ∷ rest) may amp long other sign ascii = record 
 -- places do not matter to a test
 all_unplaced : (test : ℕ → Bool) (at : ℕ) (xs : List ℕ) → all test (placed at xs) ≡ true → list_all test xs ≡ true
 all_unplaced test at xs h = sym (all-characters test (placed at xs) ∙ ap (list_all test) (characters_placed at xs)) ∙ h
-
-length-placed : (at : ℕ) (xs : List ℕ) → length (placed at xs) ≡ length xs
-length-placed at [] = refl
-length-placed at (x ∷ xs) = ap suc (length-placed (at + len_utf8 x) xs)
 
 -- a front that passes is counted
 counted_long : (test : ℕ → Bool) (xs : List ℕ) (k : ℕ) → k ≤ length xs → list_all test (take k xs) ≡ true → k ≤ prefix_len test xs
@@ -151,19 +147,9 @@ module _ (table : Entities) (kind : RawKind) (bytes : List ℕ) (found : Referen
             (bare_is at next more (prefix_len_stops is_alphanumeric bytes 0 left));
       }
 
--- a text that begins with an `&`
-pub opens : (run : List ℕ) → 0 < length run → slice_index run 0 ≡ 38 → run ≡ 38 ∷ drop 1 run
-opens [] some amp = absurd (omega (arith, some))
-opens (x ∷ xs) some amp = ap (λ (c : ℕ). c ∷ xs) amp
-
 -- what comes after the first of a text
 pub rest_of : (xs : List ℕ) → take (length xs - 1) (drop 1 xs) ≡ drop 1 xs
-rest_of [] = refl
-rest_of (x ∷ xs) = let e : length (x ∷ xs) - 1 ≡ length xs = omega arith in ap (λ (n : ℕ). take n xs) e ∙ take_all (length xs) xs (omega arith)
-
-pub rest_long : (xs : List ℕ) → length (drop 1 xs) ≡ length xs - 1
-rest_long [] = refl
-rest_long (x ∷ xs) = omega arith
+rest_of xs = take_all (length xs - 1) (drop 1 xs) (omega (arith, length-drop 1 xs))
 
 -- A WHOLE REFERENCE
 
@@ -185,150 +171,38 @@ whole_is table kind run bytes found count may is_table is within ascii known lef
 pub whole_within : (table : Entities) (kind : RawKind) (run : List ℕ) (found : Reference) (count : ℕ) → IsWhole table kind run found count → count < length run
 whole_within table kind run found count is = omega (arith, is.count_is, ap length is.run_is, length-append (38 ∷ is.shown) is.others)
 
--- the last of an ASCII text
-last_is : (x : ℕ) (xs : List ℕ) → list_all is_ascii (x ∷ xs) ≡ true → (c : ℕ) × (drop (length xs) (x ∷ xs) ≡ encode_utf8 c)
-last_is x [] h = let small : x < 128 = grind (arith, (and_parts (is_ascii x) true h).0, nat_tests) in (x, sym (encode_ascii x small))
-last_is x (y ∷ ys) h = last_is y ys (and_parts (is_ascii x) (list_all is_ascii (y ∷ ys)) h).1
-
--- its last character, which a reference may leave
-last_placed : (at x : ℕ) (xs ys : List ℕ) → list_all is_ascii (x ∷ xs) ≡ true → (c place : ℕ) → c ≡ slice_index (x ∷ xs ++ ys) (length xs) → place ≡ at + length xs → drop (length xs) (placed at (x ∷ xs)) ≡ record { ch = c; at = place } ∷ []
-last_placed at x [] ys h c place c_is place_is =
-    let same : at ≡ place = omega (arith, place_is) in
-    ap (λ (n : ℕ). record { ch = n; at = at } ∷ []) (sym c_is) ∙ ap (λ (n : ℕ). record { ch = c; at = n } ∷ []) same
-last_placed at x (y ∷ ys) zs h c place c_is place_is =
-    let small : x < 128 = grind (arith, nat_tests) in
-    last_placed (at + len_utf8 x) y ys zs (and_parts (is_ascii x) (list_all is_ascii (y ∷ ys)) h).1 c place c_is (omega (arith, place_is, len_utf8_ascii x small))
-
-last_left : (at count left c : ℕ) (shown others run : List ℕ) → run ≡ 38 ∷ shown ++ others → count ≡ length shown → list_all is_ascii shown ≡ true → left ≡ 1 → left ≤ length (placed (at + 1) shown) → c ≡ slice_index run count
-    → drop (length (placed (at + 1) shown) - left) (placed (at + 1) shown) ≡ record { ch = c; at = at + count } ∷ []
-last_left at count left c [] others run is size ascii one within c_is = absurd (omega (arith, one, within))
-last_left at count left c (x ∷ xs) others run is size ascii one within c_is =
-    let before : length (placed (at + 1) (x ∷ xs)) - left ≡ length xs = omega (arith, one, length-placed (at + 1) (x ∷ xs)) in
-    ap (λ (n : ℕ). drop n (placed (at + 1) (x ∷ xs))) before
-    ∙ last_placed (at + 1) x xs others ascii c (at + count) (c_is ∙ ap (λ (r : List ℕ). slice_index r count) is ∙ ap (λ (n : ℕ). slice_index (38 ∷ x ∷ xs ++ others) n) size) (omega (arith, size))
-
-module _ {S : Type 0} (gives : S → Item → Result (Unit {0}) Refusal → S → Type 0) (table : Entities) (start : RawKind) (names : Texts) (text : List Placed) (taken : List Event) (t : Tokenizer) (run : List ℕ) (at : ℕ) (u : IsUtf8 run) (found : Reference) (count : ℕ)
-    (is : IsWhole t.table.now t.kind run found count) (in_text : t.state ≡ state.Text) where
-  all_whole : list_all is_ascii (38 ∷ is.shown) ≡ true
-  all_whole = is.ascii
-
-  size_is : count + 1 ≡ length (38 ∷ is.shown)
-  size_is = omega (arith, is.count_is)
-
-  whole_taken : take (count + 1) run ≡ 38 ∷ is.shown
-  whole_taken = ap (take (count + 1)) is.run_is ∙ take_at (38 ∷ is.shown) is.others (count + 1) (sym size_is)
-
-  whole_chars : chars (38 ∷ is.shown) ≡ 38 ∷ is.shown
-  whole_chars = chars-IsAscii (38 ∷ is.shown) (each_ascii (38 ∷ is.shown) all_whole)
-
-  parts : IsUtf8 is.others × (chars (38 ∷ is.shown ++ is.others) ≡ (38 ∷ is.shown) ++ chars is.others)
-  parts = ascii_chars (38 ∷ is.shown) is.others all_whole (subst IsUtf8 is.run_is u)
+-- the run up to where it is shown
+module _ (table : Entities) (kind : RawKind) (run : List ℕ) (u : IsUtf8 run) (found : Reference) (count : ℕ) (is : IsWhole table kind run found count) where
+  long : count + 1 ≡ 1 + length is.shown
+  long = omega (arith, is.count_is)
 
   pub whole_cut : IsCut (count + 1) run
-  whole_cut = record {
-    within = omega (arith, size_is, ap length is.run_is, length-append (38 ∷ is.shown) is.others);
-    front = subst IsUtf8 (sym whole_taken) (IsUtf8-from_ascii (38 ∷ is.shown) (each_ascii (38 ∷ is.shown) all_whole));
-    back = subst IsUtf8 (sym (ap (drop (count + 1)) is.run_is ∙ drop_at (38 ∷ is.shown) is.others (count + 1) (sym size_is))) parts.0;
+  whole_cut = begun_cut 38 is.shown is.others run is.run_is (count + 1) long is.ascii u
+
+  shown_is : take (count + 1) run ≡ 38 ∷ is.shown
+  shown_is = begun_taken 38 is.shown is.others run is.run_is (count + 1) long is.ascii u
+
+  pub whole_alone : IsWhole table kind (take (count + 1) run) found count
+  whole_alone = record {
+    may = is.may;
+    is_table = is.is_table;
+    shown = is.shown;
+    others = [];
+    run_is = shown_is ∙ sym (append-nil (38 ∷ is.shown));
+    count_is = is.count_is;
+    ascii = is.ascii;
+    known = is.known;
+    left = is.left;
+    reads = is.reads;
   }
 
-  abbrev sign : Placed
-  sign = record { ch = 38; at = at }
+  pub whole_long : length (take (count + 1) run) ≡ count + 1
+  whole_long = omega (arith, ap length shown_is, long)
 
-  abbrev read : List Placed
-  read = placed (at + 1) is.shown
-
-  whole_text : placed at (chars (take (count + 1) run)) ≡ sign ∷ read
-  whole_text = ap (λ (x : List ℕ). placed at (chars x)) whole_taken ∙ ap (placed at) whole_chars
-
-  first_is : first_placed at run ≡ sign ∷ []
-  first_is = ap (first_placed at) is.run_is ∙ ap (λ (x : List ℕ). placed at (take 1 x)) parts.1
-
-  pub whole_next : after_place (at + count) ≡ next_place (text ++ placed at (chars (take (count + 1) run)))
-  whole_next =
-      let last = last_is 38 is.shown all_whole in
-      let cut : IsCut count (38 ∷ is.shown) = record {
-        within = omega (arith, is.count_is);
-        front = IsUtf8-from_ascii _ (IsAscii-take (38 ∷ is.shown) count (each_ascii (38 ∷ is.shown) all_whole));
-        back = IsUtf8-from_ascii _ (IsAscii-drop (38 ∷ is.shown) count (each_ascii (38 ∷ is.shown) all_whole));
-      } in
-      next_last text at count (38 ∷ is.shown) last.0 cut (ap (λ (n : ℕ). drop n (38 ∷ is.shown)) is.count_is ∙ last.1) ∙ ap (λ (x : List ℕ). next_place (text ++ placed at (chars x))) (sym whole_taken)
-
-  -- how many of the characters after the `&` are its own
-  abbrev own : ℕ
-  own = length read - found.left
-
-  own_first : (more : List Placed) → (sign ∷ take own read) ++ (drop own read ++ more) ≡ (sign ∷ read) ++ more
-  own_first more = sym (append_assoc (sign ∷ take own read) (drop own read) more) ∙ ap (λ (x : List Placed). (sign ∷ x) ++ more) (take-append-drop own read)
-
-  own_all : (sign ∷ take own read) ++ drop own read ≡ placed at (chars (take (count + 1) run))
-  own_all = ap (λ (x : List Placed). sign ∷ x) (take-append-drop own read) ∙ sym whole_text
-
-  module _ (h : Reads table start t names text (first_placed at run) taken) (new : Tokenizer) (then : new ≡ record t { next = new.next }) (next : new.next ≡ after_place (at + count)) where
-    none : (h.held ≡ []) × (t.raised.errors.items ≡ []) × IsBetween h.here t
-    none = held_in h state.Text in_text
-
-    text_is : text ≡ h.front
-    text_is = h.text_is ∙ ap (λ (x : List Placed). h.front ++ x) none.0 ∙ append-nil h.front
-
-    may : has_references h.here.kind ≡ true
-    may = ap has_references (sym h.kind_is) ∙ is.may
-
-    abbrev there : Standing
-    there = record h.here { front = reverse (sign ∷ take own read) ++ h.here.front }
-
-    abbrev events : List Event
-    events = piece_events found at
-
-    stands_own : (end : ℕ) (more : List Placed) → Stands table start end (text ++ (sign ∷ take own read)) (drop own read ++ more) there (taken ++ events) []
-    stands_own end more =
-        let before : Stands table start end text ((sign ∷ read) ++ more) h.here taken [] =
-        subst (λ (x : List Placed). Stands table start end text (x ++ (read ++ more)) h.here taken []) first_is
-        (subst (λ (x : List Placed). Stands table start end x (first_placed at run ++ (read ++ more)) h.here taken []) (sym text_is)
-        (subst (λ (x : List Placed). Stands table start end h.front (x ++ (first_placed at run ++ (read ++ more))) h.here taken []) none.0 (h.stands end (read ++ more)))) in
-        let reference = subst (λ (x : Entities). IsReference x false (drop own read ++ more) (record { text = sign ∷ take own read; gives = characters_of found.characters; errors = errors_of found at more })) h.table_is
-        ((is.reads (at + 1) more).reads sign refl) in
-        let later : run_errors found at more ≡ [] = ap (λ (b : Bool). error_if (b && begins (λ c. eqb c 59) (past is_alphanumeric more)) UnknownNamedCharacterReference at) is.known in
-        subst (λ (es : List ParseError). Stands table start end (text ++ (sign ∷ take own read)) (drop own read ++ more) there (taken ++ events) es) later
-        (stands_piece table start end text h.here taken at read own found may (subst IsTable h.table_is is.is_table) more more reference
-        (subst (λ (x : List Placed). Stands table start end text x h.here taken []) (sym (own_first more)) before))
-
-    -- it has been read, and what it leaves comes next
-    own_read : Reads table start new names (text ++ (sign ∷ take own read)) (drop own read) (taken ++ events)
-    own_read =
-        reads_text there (ap (λ (x : Tokenizer). x.refused) then ∙ h.accepts) (ap (λ (x : Tokenizer). x.table.now) then ∙ h.table_is)
-        (next ∙ whole_next ∙ ap next_place (ap (λ (x : List Placed). text ++ x) (sym own_all) ∙ sym (append_assoc text (sign ∷ take own read) (drop own read)))) stands_own (ap (λ (x : Tokenizer). x.kind) then ∙ h.kind_is)
-        (subst (λ (x : Option ℕ). IsLast names x h.here.name) (sym (ap (λ (x : Tokenizer). x.last) then)) h.name_is) (ap (λ (x : Tokenizer). x.state) then ∙ in_text) (ap (λ (x : Tokenizer). x.raised.errors.items) then ∙ none.1)
-        (same_between h.here there t new may refl refl (ap (λ (x : Tokenizer). x.tag) then) none.2)
-
-    pub whole_refused : (old s : S) (e : Refusal) → HandsEvents gives names old events (Err e) s → Takes gives table start text (placed at (chars (take (count + 1) run))) taken names old (Err e) s new
-    whole_refused old s e handed = take_sink_refused e events refl handed (λ more end.
-        subst (λ (x : List Placed). AreFront table start x end (taken ++ events))
-        (append_assoc text (sign ∷ take own read) (drop own read ++ more) ∙ ap (λ (x : List Placed). text ++ x) (own_first more ∙ ap (λ (x : List Placed). x ++ more) (sym whole_text)))
-        (reads_front table start new names (text ++ (sign ∷ take own read)) (drop own read) (taken ++ events) own_read end more))
-
-    pub whole_ends : found.left ≡ 0 → (old s : S) → HandsEvents gives names old events (Ok tt) s → Takes gives table start text (placed at (chars (take (count + 1) run))) taken names old (Ok tt) s new
-    whole_ends ends old s handed =
-        let all : own ≡ length read = omega (arith, ends) in
-        let nothing : drop own read ≡ [] = ap (λ (n : ℕ). drop n read) all ∙ drop-length read in
-        take_took events refl handed (holds
-        (subst (λ (x : List Placed). Reads table start new names (text ++ x) [] (taken ++ events)) (sym (append-nil (sign ∷ take own read)) ∙ ap (λ (x : List Placed). (sign ∷ take own read) ++ x) (sym nothing) ∙ own_all)
-        (subst (λ (x : List Placed). Reads table start new names (text ++ (sign ∷ take own read)) x (taken ++ events)) nothing own_read)))
-
-    -- the character that it leaves is taken as text
-    module _ (leaves : found.left ≡ 0 → ⊥) (c : ℕ) (c_is : c ≡ slice_index run count) where
-      abbrev next_one : Placed
-      next_one = record { ch = c; at = at + count }
-
-      left_is : drop own read ≡ next_one ∷ []
-      left_is = last_left at count found.left c is.shown is.others run is.run_is is.count_is is.ascii (omega (arith, is.left, leaves)) (is.reads (at + 1) []).within c_is
-
-      pub whole_then : (old mid s : S) (answer : Result (Unit {0}) Refusal) (after : Tokenizer) → HandsEvents gives names old events (Ok tt) mid
-          → ((front : List Placed) (before : List Event) → Reads table start new names front (next_one ∷ []) before → Takes gives table start front (next_one ∷ []) before names mid answer s after)
-          → Takes gives table start text (placed at (chars (take (count + 1) run))) taken names old answer s after
-      whole_then old mid s answer after handed takes =
-          subst (λ (x : List Placed). Takes gives table start text x taken names old answer s after) (ap (λ (x : List Placed). (sign ∷ take own read) ++ x) (sym left_is) ∙ own_all)
-          (takes_both gives table start text (sign ∷ take own read) (next_one ∷ []) taken events names old mid s answer after handed
-          (takes (text ++ (sign ∷ take own read)) (taken ++ events) (subst (λ (x : List Placed). Reads table start new names (text ++ (sign ∷ take own read)) x (taken ++ events)) left_is own_read)))
+  pub whole_next : (text : List Placed) (at : ℕ) → after_place (at + count) ≡ after_last (text ++ placed at (chars (take (count + 1) run)))
+  whole_next text at =
+      ap (λ (n : ℕ). after_place (at + n)) is.count_is ∙ next_ascii text at 38 is.shown is.ascii
+      ∙ ap (λ (x : List ℕ). after_last (text ++ placed at x)) (sym (ascii_taken (count + 1) run whole_cut.within (ap (list_all is_ascii) shown_is ∙ is.ascii) ∙ shown_is))
 
 -- the characters of a reference as text
 given_is : (cs : List ℕ) (at : ℕ) → map Gives (map (λ c. Char c at) cs) ≡ run_events (all_at at cs)
@@ -374,23 +248,17 @@ module _ (table : Entities) (kind : RawKind) (run : List ℕ) (at : ℕ) (u : Is
   ascii : (list_all is_ascii mine ≡ true) × (list_all is_ascii theirs ≡ true)
   ascii = and_parts (list_all is_ascii mine) (list_all is_ascii theirs) (sym (list_all-append is_ascii mine theirs) ∙ ap (list_all is_ascii) both ∙ is.ascii)
 
-  run_split : run ≡ (38 ∷ mine) ++ (theirs ++ is.others)
+  run_split : run ≡ 38 ∷ (mine ++ (theirs ++ is.others))
   run_split = is.run_is ∙ ap (λ (x : List ℕ). 38 ∷ x ++ is.others) (sym both) ∙ ap (λ (x : List ℕ). 38 ∷ x) (append_assoc mine theirs is.others)
 
-  after_mine : IsUtf8 (theirs ++ is.others)
-  after_mine = (ascii_chars (38 ∷ mine) (theirs ++ is.others) ascii.0 (subst IsUtf8 run_split u)).0
+  size_is : 1 + size ≡ 1 + length mine
+  size_is = omega (arith, mine_long)
 
-  mine_size : length (38 ∷ mine) ≡ 1 + size
-  mine_size = omega (arith, mine_long)
+  mine_cut : IsCut (1 + size) run
+  mine_cut = begun_cut 38 mine (theirs ++ is.others) run run_split (1 + size) size_is ascii.0 u
 
-  mine_taken : take (1 + size) run ≡ 38 ∷ mine
-  mine_taken = ap (take (1 + size)) run_split ∙ take_at (38 ∷ mine) (theirs ++ is.others) (1 + size) mine_size
-
-  mine_left : drop (1 + size) run ≡ theirs ++ is.others
-  mine_left = ap (drop (1 + size)) run_split ∙ drop_at (38 ∷ mine) (theirs ++ is.others) (1 + size) mine_size
-
-  mine_part : placed at (chars (take (1 + size) run)) ≡ record { ch = 38; at = at } ∷ placed (at + 1) mine
-  mine_part = ap (λ (x : List ℕ). placed at (chars x)) mine_taken ∙ ap (placed at) (chars-IsAscii (38 ∷ mine) (each_ascii (38 ∷ mine) ascii.0))
+  pub mine_left : drop (1 + size) run ≡ theirs ++ is.others
+  mine_left = begun_left 38 mine (theirs ++ is.others) run run_split (1 + size) size_is ascii.0 u
 
   text_split : shown_text ≡ placed (at + 1) mine ++ placed (at + (1 + size)) theirs
   text_split =
@@ -406,24 +274,27 @@ module _ (table : Entities) (kind : RawKind) (run : List ℕ) (at : ℕ) (u : Is
   left_text : drop (length shown_text - found.left) shown_text ≡ placed (at + (1 + size)) theirs
   left_text = ap (λ (n : ℕ). drop n shown_text) own_size ∙ ap (drop size) text_split ∙ drop_at (placed (at + 1) mine) (placed (at + (1 + size)) theirs) size mine_placed
 
-  first_of_whole : first_placed at run ≡ record { ch = 38; at = at } ∷ []
-  first_of_whole = ap (first_placed at) run_split ∙ ap (λ (x : List ℕ). placed at (take 1 x)) (ascii_chars (38 ∷ mine) (theirs ++ is.others) ascii.0 (subst IsUtf8 run_split u)).1
+  pub first_of_whole : first_placed at run ≡ record { ch = 38; at = at } ∷ []
+  first_of_whole = begun_first 38 mine (theirs ++ is.others) run run_split (1 + size) size_is ascii.0 u at
 
-  theirs_few : length theirs ≤ 1
-  theirs_few = omega (arith, is.left, few_left, is.count_is, length-drop size is.shown)
+  theirs_few : length theirs ≡ found.left
+  theirs_few = omega (arith, few_left, is.count_is, length-drop size is.shown)
+
+  -- the character that it leaves
+  pub left_ascii : (found.left ≡ 0 → ⊥) → is_ascii (slice_index (drop (1 + size) run) 0) ≡ true
+  left_ascii leaves = ap (λ (x : List ℕ). is_ascii (slice_index x 0)) mine_left ∙ by theirs (omega (arith, theirs_few, leaves)) ascii.1 where
+    by : (xs : List ℕ) → 0 < length xs → list_all is_ascii xs ≡ true → is_ascii (slice_index (xs ++ is.others) 0) ≡ true
+    by [] some all = absurd (omega (arith, some))
+    by (x ∷ xs) some all = (and_parts (is_ascii x) (list_all is_ascii xs) all).0
 
   pub front_whole : IsFront table kind run at (1 + size) (known_errors found at) (all_at at (characters_of found.characters))
   front_whole = record {
-    cut = record {
-      within = omega (arith, mine_long, ap length run_split, length-append (38 ∷ mine) (theirs ++ is.others));
-      front = subst IsUtf8 (sym mine_taken) (IsUtf8-from_ascii (38 ∷ mine) (each_ascii (38 ∷ mine) ascii.0));
-      back = subst IsUtf8 (sym mine_left) after_mine;
-    };
+    cut = mine_cut;
     stands = λ start text here taken same s end more.
         let sign : Placed = record { ch = 38; at = at } in
         let own : ℕ = length shown_text - found.left in
         let ahead : List Placed = first_placed (at + (1 + size)) (drop (1 + size) run) in
-        let next = first_ahead (at + (1 + size)) theirs is.others more theirs_few ascii.1 after_mine in
+        let next = first_ahead (at + (1 + size)) theirs is.others more (omega (arith, theirs_few, is.left)) ascii.1 (subst IsUtf8 mine_left mine_cut.back) in
         let rest : List Placed = next.0 in
         let cs : List ℕ = characters_of found.characters in
         let before : Stands table start end text ((sign ∷ take own shown_text) ++ (drop own shown_text ++ rest)) here taken [] =
@@ -434,7 +305,8 @@ module _ (table : Entities) (kind : RawKind) (run : List ℕ) (at : ℕ) (u : Is
         let one : Stands table start end (text ++ (sign ∷ take own shown_text)) (drop own shown_text ++ rest) there (taken ++ piece_events found at) [] =
         subst (λ (es : List ParseError). Stands table start end (text ++ (sign ∷ take own shown_text)) (drop own shown_text ++ rest) there (taken ++ piece_events found at) es) later
         (stands_piece table start end text here taken at shown_text own found (ap has_references same ∙ is.may) is.is_table rest rest ((is.reads (at + 1) rest).reads sign refl) before) in
-        let part_is : sign ∷ take own shown_text ≡ placed at (chars (take (1 + size) run)) = ap (λ (x : List Placed). sign ∷ x) own_text ∙ sym mine_part in
+        let part_is : sign ∷ take own shown_text ≡ placed at (chars (take (1 + size) run)) =
+        ap (λ (x : List Placed). sign ∷ x) own_text ∙ sym (begun_text 38 mine (theirs ++ is.others) run run_split (1 + size) size_is ascii.0 u at) in
         let left_is : drop own shown_text ++ rest ≡ ahead ++ more = ap (λ (x : List Placed). x ++ rest) left_text ∙ next.1 ∙ ap (λ (x : List ℕ). first_placed (at + (1 + size)) x ++ more) (sym mine_left) in
         let given : piece_events found at ≡ text_events (known_errors found at) (all_at at cs) = ap (λ (x : List Event). map Reports (known_errors found at) ++ x) (given_is cs at) in
         subst (λ (x : List Placed). Stands table start end (text ++ x) (ahead ++ more) (record here { front = backwards here.front x }) (taken ++ text_events (known_errors found at) (all_at at cs)) []) part_is
@@ -445,41 +317,81 @@ module _ (table : Entities) (kind : RawKind) (run : List ℕ) (at : ℕ) (u : Is
 
 -- AN ASCII CHARACTER
 
+pub mark_ascii : (byte : ℕ) → is_text_byte byte ≡ false → is_ascii byte ≡ true
+mark_ascii byte mark = grind (arith, mark, nat_tests)
+
 pub ascii_first : (run : List ℕ) (at c : ℕ) → IsUtf8 run → 0 < length run → c ≡ slice_index run 0 → is_ascii (slice_index run 0) ≡ true
     → (first_placed at run ≡ record { ch = c; at = at } ∷ []) × (placed at (chars (take 1 run)) ≡ record { ch = c; at = at } ∷ []) × IsCut 1 run
 ascii_first [] at c u some is one = absurd (omega (arith, some))
 ascii_first (x ∷ xs) at c u some is one =
     let all : list_all is_ascii (x ∷ []) ≡ true = and_from _ _ one refl in
-    let parts = ascii_chars (x ∷ []) xs all u in
-    let same : record { ch = x; at = at } ∷ [] ≡ record { ch = c; at = at } ∷ [] = ap (λ (n : ℕ). record { ch = n; at = at } ∷ []) (sym is) in (
-      ap (λ (cs : List ℕ). placed at (take 1 cs)) parts.1 ∙ same,
-      ap (placed at) (chars-IsAscii (x ∷ []) (each_ascii (x ∷ []) all)) ∙ same,
-      record { within = omega arith; front = IsUtf8-from_ascii (x ∷ []) (each_ascii (x ∷ []) all); back = parts.0 },
-    )
+    let same : record { ch = x; at = at } ∷ [] ≡ record { ch = c; at = at } ∷ [] = ap (λ (n : ℕ). record { ch = n; at = at } ∷ []) (sym is) in
+    (begun_first x [] xs (x ∷ xs) refl 1 refl all u at ∙ same, begun_text x [] xs (x ∷ xs) refl 1 refl all u at ∙ same, begun_cut x [] xs (x ∷ xs) refl 1 refl all u)
 
--- a front inside a tag goes on through the `>` after it
-pub inner_through : (run : List ℕ) (n : ℕ) → IsCut n run × (list_all is_plain_byte (take n run) ≡ true) → n < length run → slice_index run n ≡ 62 → IsCut (n + 1) run × (list_all is_plain_byte (take (n + 1) run) ≡ true)
-inner_through run n front within greater =
-    let left : List ℕ = drop n run in
-    let here : slice_index left 0 ≡ 62 = get_or-drop n run 0 0 ∙ ap (λ (k : ℕ). slice_index run k) (omega arith) ∙ greater in
-    let one = ascii_first left 0 (slice_index left 0) front.0.back (omega (arith, within, length_left n run front.0.within)) refl (ap is_ascii here) in
-    let last : take 1 left ≡ 62 ∷ [] = by left (omega (arith, within, length_left n run front.0.within)) here in (
-      cut_more n 1 run front.0 one.2,
-      ap (list_all is_plain_byte) (take_more n 1 run ∙ ap (λ (x : List ℕ). take n run ++ x) last) ∙ list_all-append is_plain_byte (take n run) (62 ∷ []) ∙ ap (λ (b : Bool). b && true) front.1,
-    ) where
-      by : (xs : List ℕ) → 0 < length xs → slice_index xs 0 ≡ 62 → take 1 xs ≡ 62 ∷ []
-      by [] some is = absurd (omega (arith, some))
-      by (x ∷ xs) some is = ap (λ (c : ℕ). c ∷ []) is
-
--- A `<` OR AN `&`
-
-pub mark_first : (run : List ℕ) (at c : ℕ) → IsUtf8 run → 0 < length run → c ≡ slice_index run 0 → is_text_byte (slice_index run 0) ≡ false
-    → (first_placed at run ≡ record { ch = c; at = at } ∷ []) × (placed at (chars (take 1 run)) ≡ record { ch = c; at = at } ∷ []) × IsCut 1 run
-mark_first run at c u some is mark = let one : is_ascii (slice_index run 0) ≡ true = grind (arith, mark, nat_tests) in ascii_first run at c u some is one
-
-pub mark_next : (before : List Placed) (at count : ℕ) (run : List ℕ) → IsCut count run → count < length run → is_text_byte (slice_index run count) ≡ false → after_place (at + count) ≡ next_place (before ++ first_placed (at + count) (drop count run))
-mark_next before at count run cut within mark =
+pub ascii_next : (before : List Placed) (at count : ℕ) (run : List ℕ) → IsCut count run → count < length run → is_ascii (slice_index run count) ≡ true → after_place (at + count) ≡ after_last (before ++ first_placed (at + count) (drop count run))
+ascii_next before at count run cut within ascii =
     let left : List ℕ = drop count run in
     let here : slice_index left 0 ≡ slice_index run count = get_or-drop count run 0 0 ∙ ap (λ (n : ℕ). slice_index run n) (omega arith) in
-    let first = mark_first left (at + count) (slice_index left 0) cut.back (omega (arith, within, length_left count run cut.within)) refl (ap is_text_byte here ∙ mark) in
-    sym (ap (λ (x : List Placed). next_place (before ++ x)) first.0 ∙ next_place-snoc 0 before (record { ch = slice_index left 0; at = at + count }))
+    let first = ascii_first left (at + count) (slice_index left 0) cut.back (omega (arith, within, length_left count run cut.within)) refl (ap is_ascii here ∙ ascii) in
+    sym (ap (λ (x : List Placed). after_last (before ++ x)) first.0 ∙ after_last-snoc 0 before (record { ch = slice_index left 0; at = at + count }))
+
+-- A WHOLE REFERENCE IS TAKEN, and after it the character that it leaves
+
+module _ {S : Type 0} (gives : S → Item → Result (Unit {0}) Refusal → S → Type 0) (table : Entities) (start : RawKind) (names : Texts) (text : List Placed) (taken : List Event) (t : Tokenizer) (run : List ℕ) (at : ℕ) (u : IsUtf8 run) (found : Reference) (count : ℕ)
+    (is : IsWhole t.table.now t.kind run found count) (in_text : t.state ≡ state.Text) (h : Reads table start t names text (first_placed at run) taken) where
+  abbrev own : ℕ
+  own = 1 + (count - found.left)
+
+  -- it is a front of this run, which begins as that
+  module _ (r : List ℕ) (v : IsUtf8 r) (w : IsWhole t.table.now t.kind r found count) where
+    whole_reads : (new : Tokenizer) → new ≡ record t { next = new.next } → new.next ≡ after_last ((text ++ placed at (chars (take own r))) ++ first_placed (at + own) (drop own r))
+        → Reads table start new names (text ++ placed at (chars (take own r))) (first_placed (at + own) (drop own r)) (taken ++ piece_events found at)
+    whole_reads new then next =
+        subst (λ (es : List Event). Reads table start new names (text ++ placed at (chars (take own r))) (first_placed (at + own) (drop own r)) (taken ++ (map Reports (known_errors found at) ++ es))) (sym (given_is (characters_of found.characters) at))
+        (front_reads gives table start names text (first_placed at run) taken t h in_text r at own (known_errors found at) (all_at at (characters_of found.characters)) (front_whole t.table.now t.kind r at v found count w) []
+        (first_of_whole t.table.now t.kind r at v found count w ∙ sym (first_of_whole t.table.now t.kind run at u found count is) ∙ sym (append-nil (first_placed at run))) new
+        (then ∙ (λ i. record t { next = new.next; script = sym (ap (λ (x : Tokenizer). x.script) then) i; with_references = sym (ap (λ (x : Tokenizer). x.with_references) then) i })) next (λ script. absurd (no_script t.kind is.may script)))
+
+    whole_front : (old mid : S) → HandsEvents gives names old (piece_events found at) (Ok tt) mid → IsTakenFront gives table start t names text taken r at own old mid
+    whole_front old mid handed = record { events = piece_events found at; handed = handed; reads = whole_reads }
+
+  abbrev alone_run : List ℕ
+  alone_run = take (count + 1) run
+
+  alone_utf8 : IsUtf8 alone_run
+  alone_utf8 = (whole_cut t.table.now t.kind run u found count is).front
+
+  alone_is : IsWhole t.table.now t.kind alone_run found count
+  alone_is = whole_alone t.table.now t.kind run u found count is
+
+  alone_cut : IsCut own alone_run
+  alone_cut = (front_whole t.table.now t.kind alone_run at alone_utf8 found count alone_is).cut
+
+  pub whole_refused : (new : Tokenizer) (old s : S) (e : Refusal) → HandsEvents gives names old (piece_events found at) (Err e) s → Takes gives table start text (placed at (chars (take (count + 1) run))) taken names old (Err e) s new
+  whole_refused new old s e handed =
+      let there : Tokenizer = record t { next = after_last ((text ++ placed at (chars (take own alone_run))) ++ first_placed (at + own) (drop own alone_run)) } in
+      take_sink_refused e (piece_events found at) refl handed (run_front table start there names text alone_run at own (taken ++ piece_events found at) alone_cut (whole_reads alone_run alone_utf8 alone_is there refl refl))
+
+  module _ (new : Tokenizer) (then : new ≡ record t { next = new.next }) (next : new.next ≡ after_place (at + count)) where
+    pub whole_ends : found.left ≡ 0 → (old s : S) → HandsEvents gives names old (piece_events found at) (Ok tt) s → Takes gives table start text (placed at (chars (take (count + 1) run))) taken names old (Ok tt) s new
+    whole_ends ends old s handed =
+        let all : own ≡ length alone_run = omega (arith, ends, whole_long t.table.now t.kind run u found count is) in
+        subst (λ (x : List ℕ). Takes gives table start text (placed at (chars x)) taken names old (Ok tt) s new) (take_all own alone_run (omega (arith, all)))
+        (all_taken gives table start names text taken t alone_run at own old s (whole_front alone_run alone_utf8 alone_is old s handed) alone_cut all new then (next ∙ whole_next t.table.now t.kind run u found count is text at))
+
+    pub whole_then : (found.left ≡ 0 → ⊥) → (c : ℕ) → c ≡ slice_index run count → (old mid s : S) (answer : Result (Unit {0}) Refusal) (after : Tokenizer) → HandsEvents gives names old (piece_events found at) (Ok tt) mid
+        → ((front : List Placed) (before : List Event) → Reads table start new names front (record { ch = c; at = at + count } ∷ []) before → Takes gives table start front (record { ch = c; at = at + count } ∷ []) before names mid answer s after)
+        → Takes gives table start text (placed at (chars (take (count + 1) run))) taken names old answer s after
+    whole_then leaves c c_is old mid s answer after handed takes =
+        let own_is : own ≡ count = omega (arith, is.left, leaves, few_left t.table.now t.kind run at u found count is) in
+        let front : IsTakenFront gives table start t names text taken run at count old mid = subst (λ (n : ℕ). IsTakenFront gives table start t names text taken run at n old mid) own_is (whole_front run u is old mid handed) in
+        let cut : IsCut count run = subst (λ (n : ℕ). IsCut n run) own_is (front_whole t.table.now t.kind run at u found count is).cut in
+        let less : count < length run = whole_within t.table.now t.kind run found count is in
+        let here : slice_index (drop count run) 0 ≡ slice_index run count = get_or-drop count run 0 0 ∙ ap (λ (n : ℕ). slice_index run n) (omega arith) in
+        let ascii : is_ascii (slice_index (drop count run) 0) ≡ true = subst (λ (n : ℕ). is_ascii (slice_index (drop n run) 0) ≡ true) own_is (left_ascii t.table.now t.kind run at u found count is leaves) in
+        let first = ascii_first (drop count run) (at + count) c cut.back (omega (arith, less, length_left count run cut.within)) (c_is ∙ sym here) ascii in
+        let part : List Placed = placed at (chars (take count run)) in
+        let reads = front.reads new then (next ∙ ascii_next (text ++ part) at count run cut less (ap is_ascii (sym here) ∙ ascii)) in
+        subst (λ (x : List Placed). Takes gives table start text x taken names old answer s after) (ap (λ (x : List Placed). part ++ x) (sym first.1) ∙ sym (placed_more count 1 run cut first.2 at))
+        (takes_both gives table start text part (record { ch = c; at = at + count } ∷ []) taken front.events names old mid s answer after front.handed
+        (takes (text ++ part) (taken ++ front.events) (subst (λ (x : List Placed). Reads table start new names (text ++ part) x (taken ++ front.events)) first.0 reads)))

@@ -1,7 +1,5 @@
 -- A run of characters, a part after another.
-use Rattle.htoken.proofs.Names.{◌≡◌, ◌≤◌, ◌<◌, ℕ, ◌+◌, List, [], ◌∷◌, ◌++◌, length, take, drop, sym, refl, ap, ◌∙◌, subst, Result, Ok, Err, append_assoc, append-nil, arith, true, slice_index, MatchResult, list_all, chars, nat_tests, length-take-le, take_all, IsCharBoundary-from_drop, IsUtf8-from_ascii, Placed, RawKind, Refusal, Texts, Grows, grows_on, placed, text_kept, is_plain_byte, IsCut, plain_chars, plain_drop, placed_cut, placed_more, Entities, Token, Tokenizer, Tok, Item, ItemToken, ItemError, Event, Gives, Reports, TokenMeans, Alone, WithNames, token_in, Handed, HandedMeans, Mean, tokens_in, IsRefused, AreFront, HandsEvents, TakesFront, TakesPart, HasTaken, Takes, take_ran_out, take_refused, take_sink_refused, take_took, IfOk, IsCharBoundary, placed_part, placed_rest, attrs_kept, all_weaker, is_ascii}
-use Rattle.std.proofs.lemmas.Result.{IfOk-weaker}
-use Rattle.htag.proofs.Ascii.{each_ascii}
+use Rattle.htoken.proofs.Names.{◌≡◌, ◌≤◌, ℕ, ◌+◌, List, [], ◌∷◌, ◌++◌, length, take, drop, sym, refl, ap, ◌∙◌, subst, Result, Ok, Err, append_assoc, append-nil, arith, true, list_all, chars, nat_tests, take_all, Placed, RawKind, Refusal, Texts, Grows, grows_on, placed, text_kept, is_plain_byte, IsCut, placed_cut, placed_more, Entities, Token, Tokenizer, Tok, Item, ItemToken, ItemError, Event, Gives, Reports, TokenMeans, Alone, WithNames, token_in, Handed, HandedMeans, Mean, tokens_in, IsRefused, AreFront, HandsEvents, HasTaken, Takes, take_ran_out, take_refused, take_sink_refused, take_took, attrs_kept, all_weaker, is_ascii}
 use Rattle.htoken.specs.declared.token.Token.TheVariants as code
 use Rattle.htoken.proofs.Handing.{HandsEvents-append}
 
@@ -33,31 +31,9 @@ mean_kept old new grows (ItemError e ∷ items) (Gives tok ∷ events) h = absur
 mean_kept old new grows [] (e ∷ events) h = absurd h
 mean_kept old new grows (i ∷ items) [] h = absurd h
 
--- the first character of a run
-pub first_of : (at : ℕ) (run bytes : List ℕ) (c : ℕ) → 0 < length run → c ≡ slice_index bytes 0 → bytes ≡ run → record { ch = c; at = at } ∷ [] ≡ placed at (take 1 run)
-first_of at [] bytes c some is same = absurd (omega (arith, some))
-first_of at (x ∷ xs) bytes c some is same = ap (λ (n : ℕ). record { ch = n; at = at } ∷ []) (is ∙ ap (λ (bs : List ℕ). slice_index bs 0) same)
-
--- a run of plain bytes may be cut anywhere
+-- plain bytes
 pub plain_ascii : (xs : List ℕ) → list_all is_plain_byte xs ≡ true → list_all is_ascii xs ≡ true
 plain_ascii xs h = all_weaker is_plain_byte is_ascii (λ x plain. grind (arith, plain, nat_tests)) xs h
-
-pub plain_boundary : (n : ℕ) (run : List ℕ) → list_all is_plain_byte run ≡ true → n ≤ length run → IsCharBoundary run n
-plain_boundary n run plain within = IsCharBoundary-from_drop run n within (IsUtf8-from_ascii (drop n run) (each_ascii (drop n run) (plain_ascii (drop n run) (plain_drop n run plain))))
-
--- a part of a run, taken whole
-taken_whole : (n k : ℕ) (run part : List ℕ) → n ≤ length run → part ≡ take n run → k ≡ length part → k ≡ n
-taken_whole n k run part within is all = all ∙ ap length is ∙ length-take-le n run within
-
-pub few_of : (n : ℕ) (run : List ℕ) → 0 < n → IsCut n run → (part : List ℕ) → part ≡ take n run → (answer : Result ℕ Refusal) → IfOk answer (λ count. count ≡ length part) → IfOk answer (λ count. (0 < count) × IsCut count run)
-few_of n run some cut part is answer = IfOk-weaker answer _ _ (λ k all. subst (λ (m : ℕ). (0 < m) × IsCut m run) (sym (taken_whole n k run part cut.within is all)) (some, cut))
-
--- one character of a run, or all of it
-pub one_is_few : (run : List ℕ) → 0 < length run → (answer : Result ℕ Refusal) → IfOk answer (λ count. count ≡ 1) → IfOk answer (λ count. (0 < count) × (count ≤ length run))
-one_is_few run some answer = IfOk-weaker answer _ _ (λ n one. (omega (arith, one), omega (arith, one, some)))
-
-pub all_is_few : (run : List ℕ) → 0 < length run → (answer : Result ℕ Refusal) → IfOk answer (λ count. count ≡ length run) → IfOk answer (λ count. (0 < count) × (count ≤ length run))
-all_is_few run some answer = IfOk-weaker answer _ _ (λ n all. (omega (arith, all, some), omega (arith, all)))
 
 module _ {S : Type 0} (gives : S → Item → Result (Unit {0}) Refusal → S → Type 0) (table : Entities) (start : RawKind) (text : List Placed) where
   -- a refusal is one whatever follows
@@ -103,21 +79,6 @@ module _ {S : Type 0} (gives : S → Item → Result (Unit {0}) Refusal → S �
   pub refused_any : (fed : List Placed) (taken : List Event) (names : Texts) (old new : S) (e : Refusal) (next then : Tokenizer) → Takes gives table start text fed taken names old (Err e) new next → Takes gives table start text fed taken names old (Err e) new then
   refused_any fed taken names old new e next then h = subst (λ (x : List Placed). Takes gives table start text x taken names old (Err e) new then) (append-nil fed) (refused_longer fed [] taken names old new e next then h)
 
-  -- a refusal in a front of a run
-  pub front_refused : (at count : ℕ) (run : List ℕ) → list_all is_plain_byte run ≡ true → count ≤ length run → (taken : List Event) (names : Texts) (old new : S) (e : Refusal) (next then : Tokenizer)
-      → Takes gives table start text (placed at (take count run)) taken names old (Err e) new next → Takes gives table start text (placed at run) taken names old (Err e) new then
-  front_refused at count run plain within taken names old new e next then h =
-      subst (λ (x : List Placed). Takes gives table start text x taken names old (Err e) new then) (sym (placed_rest at count run plain within))
-      (refused_longer (placed at (take count run)) (placed (at + count) (drop count run)) taken names old new e next then h)
-
-  -- a call for the first character of a run takes a front of it
-  pub first_front : (at : ℕ) (run : List ℕ) (p : Placed) → p ∷ [] ≡ placed at (take 1 run) → list_all is_plain_byte run ≡ true → 0 < length run → (taken : List Event) (names : Texts) (old new : S) (next : Tokenizer) (answer : Result (Unit {0}) Refusal)
-      → Takes gives table start text (p ∷ []) taken names old answer new next
-      → MatchResult answer (λ done. Takes gives table start text (placed at (take 1 run)) taken names old (Ok tt) new next) (λ e. Takes gives table start text (placed at run) taken names old (Err e) new next)
-  first_front at run p is plain some taken names old new next (Ok done) h = subst (λ (x : List Placed). Takes gives table start text x taken names old (Ok tt) new next) is h
-  first_front at run p is plain some taken names old new next (Err e) h =
-      front_refused at 1 run plain (omega (arith, some)) taken names old new e next next (subst (λ (x : List Placed). Takes gives table start text x taken names old (Err e) new next) is h)
-
   -- A LOOP OVER A RUN, of which a front has been taken
 
   module _ (front : List Placed) (taken : List Event) (before names : Texts) (grows : Grows before names) (old mid : S) (t : Tokenizer) where
@@ -134,44 +95,12 @@ module _ {S : Type 0} (gives : S → Item → Result (Unit {0}) Refusal → S �
         subst (λ (x : List Placed). Takes gives table start text x taken names old answer new next) (sym is)
         (takes_both front part taken es names old mid new answer next (items, mean_kept before names grows items es mean, given) (then (text ++ front) (taken ++ es) has))
 
-  -- of which `count` bytes have been taken, each a character
-
-  module _ (at count : ℕ) (run : List ℕ) (plain : list_all is_plain_byte run ≡ true) (within : count ≤ length run) (taken : List Event) (before names : Texts) (grows : Grows before names) (old mid : S) (t : Tokenizer) where
-    abbrev pub SoFar : Type 0
-    SoFar = Takes gives table start text (placed at (take count run)) taken before old (Ok tt) mid t
-
-    -- how a front of what is left is taken, if the rest has been
-    abbrev pub Then : List ℕ → Result ℕ Refusal → S → Tokenizer → Type 0
-    Then part answer new next = (fed : List Placed) (events : List Event) → HasTaken table start t before fed events → TakesFront gives table start fed (at + count) part events names mid answer new next
-
-    pub more_taken : (part : List ℕ) → part ≡ drop count run → (n : ℕ) (new : S) (next : Tokenizer) → SoFar → Then part (Ok n) new next → Takes gives table start text (placed at (take (count + n) run)) taken names old (Ok tt) new next
-    more_taken part is n new next so then =
-        part_taken (placed at (take count run)) taken before names grows old mid t (placed (at + count) (take n (drop count run))) (placed at (take (count + n) run)) (placed_part at count n run plain within) (Ok tt) new next so
-        (subst (λ (x : List ℕ). ThenTakes (placed at (take count run)) taken before names grows old mid t (placed (at + count) (take n x)) (Ok tt) new next) is then)
-
-    -- a refusal in all that is left
-    pub more_refused : (part : List ℕ) → part ≡ drop count run → (e : Refusal) (new : S) (next : Tokenizer) → SoFar → Then part (Err e) new next → Takes gives table start text (placed at run) taken names old (Err e) new next
-    more_refused part is e new next so then =
-        part_taken (placed at (take count run)) taken before names grows old mid t (placed (at + count) (drop count run)) (placed at run) (placed_rest at count run plain within) (Err e) new next so
-        (subst (λ (x : List ℕ). ThenTakes (placed at (take count run)) taken before names grows old mid t (placed (at + count) x) (Err e) new next) is then)
-
-  -- or each a part of one
-
   -- a refusal in a front of a run
   pub cut_refused : (at count : ℕ) (run : List ℕ) → IsCut count run → (taken : List Event) (names : Texts) (old new : S) (e : Refusal) (next then : Tokenizer)
       → Takes gives table start text (placed at (chars (take count run))) taken names old (Err e) new next → Takes gives table start text (placed at (chars run)) taken names old (Err e) new then
   cut_refused at count run cut taken names old new e next then h =
       subst (λ (x : List Placed). Takes gives table start text x taken names old (Err e) new then) (sym (placed_cut count run cut at))
       (refused_longer (placed at (chars (take count run))) (placed (at + count) (chars (drop count run))) taken names old new e next then h)
-
-  -- a part that is ASCII
-  pub part_of : (at n : ℕ) (run : List ℕ) → IsCut n run → list_all is_plain_byte (take n run) ≡ true → (part : List ℕ) → part ≡ take n run → (taken : List Event) (names : Texts) (old new : S) (answer : Result ℕ Refusal) (next : Tokenizer)
-      → IfOk answer (λ count. count ≡ length part) → TakesFront gives table start text at part taken names old answer new next → TakesPart gives table start text at run taken names old answer new next
-  part_of at n run cut plain part is taken names old new (Ok k) next all h =
-      let same : take k part ≡ chars (take k run) = take_all k part (omega (arith, all)) ∙ is ∙ sym (plain_chars (take n run) plain cut.front) ∙ ap (λ (m : ℕ). chars (take m run)) (sym (taken_whole n k run part cut.within is all)) in
-      subst (λ (x : List ℕ). Takes gives table start text (placed at x) taken names old (Ok tt) new next) same h
-  part_of at n run cut plain part is taken names old new (Err e) next all h =
-      cut_refused at n run cut taken names old new e next next (subst (λ (x : List ℕ). Takes gives table start text (placed at x) taken names old (Err e) new next) (is ∙ sym (plain_chars (take n run) plain cut.front)) h)
 
   module _ (at count : ℕ) (run : List ℕ) (cut : IsCut count run) (taken : List Event) (before names : Texts) (grows : Grows before names) (old mid : S) (t : Tokenizer) where
     abbrev pub SoFarCut : Type 0

@@ -25,7 +25,7 @@ use Rattle.htoken.specs.HeldFrom.{from_of}
 use Rattle.htoken.specs.Raw.{is_raw, name_ends}
 use Rattle.htoken.specs.Tag.{tag_mark}
 use Rattle.htoken.specs.Token.{doctype_token}
-use Rattle.htoken.specs.Tokenizing.{Reads, holds, in_ambiguous_ampersand, IsHeld, IsStateOf, IsInMarkup, IsInMarkedTag, IsInReference, less, next_place}
+use Rattle.htoken.specs.Tokenizing.{Reads, holds, in_ambiguous_ampersand, IsHeld, IsStateOf, IsInMarkup, IsInMarkedTag, IsInReference, less, after_last}
 use Rattle.htoken.proofs.Declaring.{nothing_at_end}
 use Rattle.htoken.proofs.Holding.{held_place}
 use Rattle.htoken.proofs.InData.{in_data}
@@ -266,7 +266,7 @@ held_begins table start t names text taken is_table (holds h) = record {
   here = h.here;
   text_is = h.text_is;
   cuts = λ end more. let s = h.stands end more in (record { spans = s.spans; front_is = s.front_is; cut = s.cut; tokens_are = s.tokens_are; in_profile = s.in_profile }, s.leads);
-  from_is = held_place t.state table names h.here t h.held h.is_held ∙ ap (λ (n : ℕ). place n h.held) (h.next_is ∙ ap next_place (append-nil text));
+  from_is = held_place t.state table names h.here t h.held h.is_held ∙ ap (λ (n : ℕ). place n h.held) (h.next_is ∙ ap after_last (append-nil text));
   begins = by_state table is_table start names text taken t h t.state h.is_in h.is_held;
 }
 held_begins table start t names text taken is_table (in_ambiguous_ampersand h) = record {
@@ -275,6 +275,6 @@ held_begins table start t names text taken is_table (in_ambiguous_ampersand h) =
   here = h.here;
   text_is = sym (append-nil text);
   cuts = λ end more. let s = h.stands end more in (record { spans = s.spans; front_is = s.front_is; cut = s.cut; tokens_are = s.tokens_are; in_profile = s.in_profile }, s.leads);
-  from_is = ap (λ (s : State). from_of s t) h.state_is ∙ h.next_is ∙ ap next_place (append-nil text);
+  from_is = ap (λ (s : State). from_of s t) h.state_is ∙ h.next_is ∙ ap after_last (append-nil text);
   begins = nothing refl;
 }

@@ -1,5 +1,5 @@
 -- From where on a tokenizer holds its text.
-use Rattle.htoken.proofs.Names.{◌≡◌, ℕ, List, [], sym, refl, ap, ◌∙◌, append-nil, Placed, RawKind, Texts, place, Entities, State, Tokenizer, Event, Standing, HoldsFrom, from_of, HasTaken, holds, in_ambiguous_ampersand, IsHeld, next_place}
+use Rattle.htoken.proofs.Names.{◌≡◌, ℕ, List, [], sym, refl, ap, ◌∙◌, append-nil, Placed, RawKind, Texts, place, Entities, State, Tokenizer, Event, Standing, HoldsFrom, from_of, HasTaken, holds, in_ambiguous_ampersand, IsHeld, after_last}
 use Rattle.htoken.specs.declared.state.State.TheVariants as state
 
 pub held_place : (s : State) (table : Entities) (names : Texts) (here : Standing) (t : Tokenizer) (held : List Placed) → IsHeld s table names here t held [] → from_of s t ≡ place t.next held
@@ -34,13 +34,13 @@ holds_from table start t names text taken (holds h) = record {
   front = h.front;
   held = h.held;
   text_is = h.text_is;
-  from_is = held_place t.state table names h.here t h.held h.is_held ∙ ap (λ (n : ℕ). place n h.held) (h.next_is ∙ ap next_place (append-nil text));
+  from_is = held_place t.state table names h.here t h.held h.is_held ∙ ap (λ (n : ℕ). place n h.held) (h.next_is ∙ ap after_last (append-nil text));
   cuts = λ end more. let s = h.stands end more in record { spans = s.spans; front_is = s.front_is; cut = s.cut; tokens_are = s.tokens_are; in_profile = s.in_profile };
 }
 holds_from table start t names text taken (in_ambiguous_ampersand h) = record {
   front = text;
   held = [];
   text_is = sym (append-nil text);
-  from_is = ap (λ (s : State). from_of s t) h.state_is ∙ h.next_is ∙ ap next_place (append-nil text);
+  from_is = ap (λ (s : State). from_of s t) h.state_is ∙ h.next_is ∙ ap after_last (append-nil text);
   cuts = λ end more. let s = h.stands end more in record { spans = s.spans; front_is = s.front_is; cut = s.cut; tokens_are = s.tokens_are; in_profile = s.in_profile };
 }

@@ -1,5 +1,5 @@
 -- A character after an `&`, and the input's end there.
-use Rattle.htoken.proofs.Names.{◌≡◌, ℕ, ◌+◌, ◌-◌, ◌≤◌, Bool, true, false, true≢false, ◌&&◌, eqb, List, [], ◌∷◌, ◌++◌, map, length, drop, take, reverse, sym, refl, ap, ◌∙◌, subst, Result, Ok, Err, Option, arith, append_assoc, append-nil, string_bytes, UnknownNamedCharacterReference, ParseError, Placed, RawKind, Refusal, Texts, all, begins, past, is_alphanumeric, error_if, Reference, IsRead, characters_of, errors_of, Entities, IsTable, IsReference, WalkState, and_no, and_parts, Tokenizer, Span, Item, Event, Gives, Reports, Char, piece_span, Standing, next, is_raw, is_script, has_references, known_errors, piece_events, read_events, HandsEvents, run_events, Stays, Stands, Reads, IsInAmbiguousAmpersand, Takes, take_took, take_sink_refused, in_ambiguous_ampersand, IsLast, IsBetween, EndsHeld, held_ended, later_errors, next_place, drop-append-le, take-append-le, drop-append_seam, take-append_seam, CharWalk, is_number, WalkHasTaken, LeavesLast, kept_none, kept_all, kept_nothing, is_other, drop-kept, drop-kept-end, BeginsReference, Finds, HoldsInReference, IsInReference}
+use Rattle.htoken.proofs.Names.{◌≡◌, ℕ, ◌+◌, ◌-◌, ◌≤◌, Bool, true, false, true≢false, ◌&&◌, eqb, List, [], ◌∷◌, ◌++◌, map, length, drop, take, reverse, sym, refl, ap, ◌∙◌, subst, Result, Ok, Err, Option, arith, append_assoc, append-nil, string_bytes, UnknownNamedCharacterReference, ParseError, Placed, RawKind, Refusal, Texts, all, begins, past, is_alphanumeric, error_if, Reference, IsRead, characters_of, errors_of, Entities, IsTable, IsReference, WalkState, and_no, and_parts, Tokenizer, Span, Item, Event, Gives, Reports, Char, piece_span, Standing, next, is_raw, is_script, has_references, known_errors, piece_events, read_events, HandsEvents, run_events, Stays, Stands, Reads, IsInAmbiguousAmpersand, Takes, take_took, take_sink_refused, in_ambiguous_ampersand, IsLast, IsBetween, EndsHeld, held_ended, later_errors, after_last, drop-append-le, take-append-le, drop-append_seam, take-append_seam, CharWalk, is_number, WalkHasTaken, LeavesLast, kept_none, kept_all, kept_nothing, is_other, drop-kept, drop-kept-end, BeginsReference, Finds, HoldsInReference, IsInReference}
 use Rattle.std.proofs.Math.ListN.{length-append}
 use Rattle.names.specs.declared.raw.RawKind.TheVariants as kind
 use Rattle.charref.specs.Held.{held_characters}
@@ -266,7 +266,7 @@ module _ {S : Type 0} (gives : S → Item → Result (Unit {0}) Refusal → S �
       amp = amp;
       state_is = same;
       table_is = h.table_is;
-      next_is = h.next_is ∙ ap next_place (sym (append-nil (text ++ p ∷ [])));
+      next_is = h.next_is ∙ ap after_last (sym (append-nil (text ++ p ∷ [])));
       stands = λ end more. stands_then end more;
       kind_is = h.kind_is;
       name_is = h.name_is;

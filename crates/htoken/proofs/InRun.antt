@@ -1,5 +1,5 @@
 -- A run of plain characters, taken as a whole.
-use Rattle.htoken.proofs.Names.{◌≡◌, ◌≤◌, ◌<◌, ℕ, zero, suc, ◌+◌, Bool, true, false, List, [], ◌∷◌, ◌++◌, length, take, sym, refl, ap, ◌∙◌, subst, arith, drop, Result, Ok, Err, Option, append_assoc, append-nil, nat_tests, list_all, ◌||◌, length-take-le, len_utf8, encode_utf8, chars, string_bytes, ParseError, Placed, RawKind, Refusal, Memory, Texts, Grows, all, placed, is_clean, is_plain_byte, is_plain_character, IsCut, all_placed, plain_take, Entities, and_parts, HasReadOf, HasReadDoctype, IsDoctype, doctype_token, IsCommentOf, TakesRun, IsInTag, Raised, State, Tokenizer, Tok, Item, Event, Comment, Standing, is_script, FollowsAll, HandsEvents, run_events, replacement_run, tag_mark, after_place, next_from, next_place, less, Stands, Reads, holds, Takes, take_sink_refused, take_took, IsHeld, IsStateOf, IsLast, IsBetween, IsInMarkup, IsInMarkedTag, ◌==◌, one_long, last_char, run_ran_out, run_refused, run_goes_on, all_weaker, IsUtf8, run_plain, Hands, gives_item, run_tokens, plain_chars, Handed, Keeps, EndsTag, IsWholeTag, names_grow, tag_ahead}
+use Rattle.htoken.proofs.Names.{◌≡◌, ◌≤◌, ◌<◌, ℕ, zero, suc, ◌+◌, Bool, true, false, List, [], ◌∷◌, ◌++◌, length, take, sym, refl, ap, ◌∙◌, subst, arith, drop, Result, Ok, Err, Option, append_assoc, append-nil, nat_tests, list_all, len_utf8, encode_utf8, chars, string_bytes, ParseError, Placed, RawKind, Refusal, Memory, Texts, Grows, all, placed, is_plain_character, IsCut, Entities, and_parts, HasReadOf, HasReadDoctype, IsDoctype, doctype_token, IsCommentOf, TakesRun, IsInTag, Raised, State, Tokenizer, Tok, Item, Event, Comment, Standing, is_script, FollowsAll, HandsEvents, run_events, replacement_run, tag_mark, after_place, next_from, after_last, less, Stands, Reads, holds, Takes, take_sink_refused, take_took, IsHeld, IsStateOf, IsLast, IsBetween, IsInMarkup, IsInMarkedTag, last_char, run_ran_out, run_refused, run_goes_on, IsUtf8, Hands, gives_item, run_tokens, Handed, Keeps, EndsTag, IsWholeTag, names_grow, tag_ahead, cond, prefix_len, and_from, is_only_data, prefix_all, front_of_test, is_ascii, len_utf8_ascii}
 use Rattle.htoken.specs.declared.state.State.TheVariants as state
 use Rattle.htoken.proofs.InMarkup.{keeps, kept, markup_more, refused}
 use Rattle.htoken.proofs.InRaw.{after_characters}
@@ -9,9 +9,6 @@ use Rattle.htoken.proofs.Referring.{all_imp}
 use Rattle.htoken.proofs.Running.{run_given}
 use Rattle.htoken.proofs.Reading.{are_front, held_in, kind_in, ran_out_before, reads_as, reads_held, reads_text}
 use Rattle.htoken.proofs.Scripting.{all_followed}
-
-pub plain_is_clean : (cs : List ℕ) → list_all is_plain_character cs ≡ true → list_all is_clean cs ≡ true
-plain_is_clean cs h = all_weaker is_plain_character is_clean (λ c plain. ap (λ (b : Bool). b || c == 60 || c == 38) plain) cs h
 
 pub all_itself : (ps : List Placed) → all is_plain_character ps ≡ true → all is_itself ps ≡ true
 all_itself ps h = all_imp is_plain_character is_itself ps (λ c plain. grind (arith, plain, nat_tests)) h
@@ -31,52 +28,59 @@ replaced_more (suc m) n at =
     let place : at + 1 + m ≡ at + suc m = omega arith in
     ap (λ (k : ℕ). replacement_run at k) long ∙ ap (λ (ps : List Placed). record { ch = 0xFFFD; at = at } ∷ ps) (replaced_more m n (at + 1) ∙ ap (λ (k : ℕ). replacement_run (at + 1) m ++ replacement_run k n) place)
 
+-- THE FRONTS OF A RUN that are only data
+
+pub data_front : (run : List ℕ) (n : ℕ) → IsUtf8 run → n ≡ prefix_len is_only_data run → IsCut n run × (list_all is_only_data (take n run) ≡ true)
+data_front run n u is = rw is ((front_of_test is_only_data (λ byte l. grind (arith, l, nat_tests)) run u).0, prefix_all is_only_data run)
+
+pub front_passes : (test : ℕ → Bool) (n : ℕ) (run : List ℕ) → n ≤ prefix_len test run → list_all test (take n run) ≡ true
+front_passes test zero run few = refl
+front_passes test (suc n) [] few = refl
+front_passes test (suc n) (x ∷ xs) few = by (test x) refl few (front_passes test n xs) where
+  by : (b : Bool) → test x ≡ b → suc n ≤ cond b (1 + prefix_len test xs) 0 → (n ≤ prefix_len test xs → list_all test (take n xs) ≡ true) → list_all test (x ∷ take n xs) ≡ true
+  by true is few more = and_from _ _ is (more (omega (arith, few)))
+  by false is few more = absurd (omega (arith, few))
+
 -- WHERE THE NEXT CHARACTER STANDS
 
 next_from-append : (now : ℕ) (xs ys : List Placed) → next_from now (xs ++ ys) ≡ next_from (next_from now xs) ys
 next_from-append now [] ys = refl
 next_from-append now (x ∷ xs) ys = next_from-append (after_place x.at) xs ys
 
-next_from_here : (at : ℕ) (run : List ℕ) → list_all is_plain_byte run ≡ true → at + length run ≤ 0xFFFFFFFFFFFFFFFF → next_from at (placed at run) ≡ at + length run
-next_from_here at [] h l = omega arith
-next_from_here at (x ∷ xs) h l =
-    let k = and_parts (is_plain_byte x) (list_all is_plain_byte xs) h in
-    let long : at + len_utf8 x ≡ at + 1 = ap (λ (n : ℕ). at + n) (one_long x k.0) in
-    let after : after_place at ≡ at + 1 = omega arith in
-    ap (λ (n : ℕ). next_from n (placed (at + len_utf8 x) xs)) after ∙ ap (λ (n : ℕ). next_from (at + 1) (placed n xs)) long
-    ∙ next_from_here (at + 1) xs k.1 (omega arith) ∙ omega arith
+next_bytes : (now at x : ℕ) (xs : List ℕ) → list_all is_ascii (x ∷ xs) ≡ true → next_from now (placed at (x ∷ xs)) ≡ after_place (at + length xs)
+next_bytes now at x [] h = let same : at ≡ at + 0 = omega arith in ap after_place same
+next_bytes now at x (y ∷ ys) h =
+    let k = and_parts (is_ascii x) (list_all is_ascii (y ∷ ys)) h in
+    let small : x < 128 = grind (arith, nat_tests) in
+    let far : at + len_utf8 x + length ys ≡ at + length (y ∷ ys) = omega (arith, len_utf8_ascii x small) in
+    next_bytes (after_place at) (at + len_utf8 x) y ys k.1 ∙ ap after_place far
 
-next_after : (now at : ℕ) (run : List ℕ) → list_all is_plain_byte run ≡ true → 0 < length run → at + length run ≤ 0xFFFFFFFFFFFFFFFF → next_from now (placed at run) ≡ at + length run
-next_after now at [] h some l = absurd (omega arith)
-next_after now at (x ∷ xs) h some l = next_from_here at (x ∷ xs) h l
+-- after ASCII characters
+pub next_ascii : (text : List Placed) (at x : ℕ) (xs : List ℕ) → list_all is_ascii (x ∷ xs) ≡ true → after_place (at + length xs) ≡ after_last (text ++ placed at (x ∷ xs))
+next_ascii text at x xs h = sym (next_from-append 0 text (placed at (x ∷ xs)) ∙ next_bytes (next_from 0 text) at x xs h)
 
-pub next_run : (text : List Placed) (at : ℕ) (run : List ℕ) → list_all is_plain_byte run ≡ true → 0 < length run → at + length run ≤ 0xFFFFFFFFFFFFFFFF → next_place (text ++ placed at run) ≡ at + length run
-next_run text at run h some l = next_from-append 0 text (placed at run) ∙ next_after (next_from 0 text) at run h some l
-
--- after a front of a run
-pub next_front : (text : List Placed) (at count : ℕ) (run : List ℕ) → list_all is_plain_byte run ≡ true → 0 < count → count ≤ length run → at + length run ≤ 0xFFFFFFFFFFFFFFFF → at + count ≡ next_place (text ++ placed at (take count run))
-next_front text at count run plain some within room =
-    let long : length (take count run) ≡ count = length-take-le count run within in
-    ap (λ (n : ℕ). at + n) (sym long) ∙ sym (next_run text at (take count run) (plain_take count run plain) (omega (arith, long)) (omega (arith, long)))
+pub next_run : (text : List Placed) (at : ℕ) (run : List ℕ) → list_all is_ascii run ≡ true → 0 < length run → at + length run ≤ 0xFFFFFFFFFFFFFFFF → at + length run ≡ after_last (text ++ placed at run)
+next_run text at [] h some room = absurd (omega (arith, some))
+next_run text at (x ∷ xs) h some room = let end : at + length (x ∷ xs) ≡ after_place (at + length xs) = omega (arith, room) in end ∙ next_ascii text at x xs h
 
 -- after a run of any characters, the last of which begins after `n` bytes
-pub next_last : (text : List Placed) (at n : ℕ) (run : List ℕ) (c : ℕ) → IsCut n run → drop n run ≡ encode_utf8 c → after_place (at + n) ≡ next_place (text ++ placed at (chars run))
+pub next_last : (text : List Placed) (at n : ℕ) (run : List ℕ) (c : ℕ) → IsCut n run → drop n run ≡ encode_utf8 c → after_place (at + n) ≡ after_last (text ++ placed at (chars run))
 next_last text at n run c cut is =
-    sym (ap (λ (x : List Placed). next_place (text ++ x)) (last_char n at run c cut is) ∙ ap next_place (sym (append_assoc text (placed at (chars (take n run))) (record { ch = c; at = at + n } ∷ [])))
+    sym (ap (λ (x : List Placed). after_last (text ++ x)) (last_char n at run c cut is) ∙ ap after_last (sym (append_assoc text (placed at (chars (take n run))) (record { ch = c; at = at + n } ∷ [])))
     ∙ next_from-append 0 (text ++ placed at (chars (take n run))) (record { ch = c; at = at + n } ∷ []))
 
 next_bad : (n now at : ℕ) → at + suc n ≤ 0xFFFFFFFFFFFFFFFF → next_from now (replacement_run at (suc n)) ≡ at + suc n
 next_bad zero now at h = omega (arith, h)
 next_bad (suc n) now at h = next_bad n (after_place at) (at + 1) (omega (arith, h)) ∙ omega arith
 
-pub next_replaced : (text : List Placed) (at n : ℕ) → 0 < n → at + n ≤ 0xFFFFFFFFFFFFFFFF → at + n ≡ next_place (text ++ replacement_run at n)
+pub next_replaced : (text : List Placed) (at n : ℕ) → 0 < n → at + n ≤ 0xFFFFFFFFFFFFFFFF → at + n ≡ after_last (text ++ replacement_run at n)
 next_replaced text at zero some h = absurd (omega (arith, some))
 next_replaced text at (suc n) some h = sym (next_from-append 0 text (replacement_run at (suc n)) ∙ next_bad n (next_from 0 text) at h)
 
 -- TEXT
 
 module _ {S : Type 0} (gives : S → Item → Result (Unit {0}) Refusal → S → Type 0) (table : Entities) (start : RawKind) (names : Texts) (text : List Placed) (taken : List Event) (t : Tokenizer) (h : Reads table start t names text [] taken) (run : List Placed) where
-  module _ (in_text : t.state ≡ state.Text) (plain : all is_itself run ≡ true) (new : Tokenizer) (then : new ≡ record t { next = new.next; script = new.script }) (next : new.next ≡ next_place (text ++ run))
+  module _ (in_text : t.state ≡ state.Text) (plain : all is_itself run ≡ true) (new : Tokenizer) (then : new ≡ record t { next = new.next; script = new.script }) (next : new.next ≡ after_last (text ++ run))
       (follows : is_script t.kind ≡ true → FollowsAll t.script run new.script) where
     abbrev here : Standing
     here = after_characters h.here run
@@ -99,7 +103,7 @@ module _ {S : Type 0} (gives : S → Item → Result (Unit {0}) Refusal → S �
 
     text_reads : Reads table start new names (text ++ run) [] (taken ++ run_events run)
     text_reads =
-        reads_text here (ap (λ (x : Tokenizer). x.refused) then ∙ h.accepts) (ap (λ (x : Tokenizer). x.table.now) then ∙ h.table_is) (next ∙ ap next_place (sym (append-nil (text ++ run)))) text_stands (ap (λ (x : Tokenizer). x.kind) then ∙ h.kind_is)
+        reads_text here (ap (λ (x : Tokenizer). x.refused) then ∙ h.accepts) (ap (λ (x : Tokenizer). x.table.now) then ∙ h.table_is) (next ∙ ap after_last (sym (append-nil (text ++ run)))) text_stands (ap (λ (x : Tokenizer). x.kind) then ∙ h.kind_is)
         (subst (λ (x : Option ℕ). IsLast names x h.here.name) (sym (ap (λ (x : Tokenizer). x.last) then)) h.name_is) (ap (λ (x : Tokenizer). x.state) then ∙ in_text) (ap (λ (x : Tokenizer). x.raised.errors.items) then ∙ none.1) between
 
     pub text_taken : (old s : S) (answer : Result (Unit {0}) Refusal) → HandsEvents gives names old (run_events run) answer s → Takes gives table start text run taken names old answer s new
@@ -109,14 +113,14 @@ module _ {S : Type 0} (gives : S → Item → Result (Unit {0}) Refusal → S �
   -- MARKUP
 
   -- the span goes on
-  went_on : (new : Tokenizer) (then : State) → new.state ≡ then → new.refused ≡ t.refused → new.table ≡ t.table → new.next ≡ next_place (text ++ run) → new.kind ≡ t.kind → new.last ≡ t.last → IsStateOf then h.here.kind → IsHeld then table names h.here new (h.held ++ run) []
+  went_on : (new : Tokenizer) (then : State) → new.state ≡ then → new.refused ≡ t.refused → new.table ≡ t.table → new.next ≡ after_last (text ++ run) → new.kind ≡ t.kind → new.last ≡ t.last → IsStateOf then h.here.kind → IsHeld then table names h.here new (h.held ++ run) []
       → (s : S) → Takes gives table start text run taken names s (Ok tt) s new
   went_on new then is refused same next kind last is_in held s = take_took [] refl ([], tt, (refl, refl)) (holds (reads_held h new run refused same next (λ end more. h.stands end (run ++ more)) kind last
       (subst (λ (x : State). IsStateOf x h.here.kind) (sym is) is_in) (subst (λ (x : State). IsHeld x table names h.here new (h.held ++ run) []) (sym is) held)))
 
   -- a comment or a doctype goes on
   module _ {W V : Type 0} (HasRead : W → List Placed → List ParseError → Type 0) (IsOne : ℕ → List Placed → List Placed → V → List ParseError → Type 0) (token : V → ℕ → Tok) (walk then : W) (i : IsInMarkup HasRead IsOne token walk table t h.held []) (new : Tokenizer)
-      (same : new ≡ record t { next = new.next; comment = new.comment; doctype = new.doctype; raised = new.raised }) (next : new.next ≡ next_place (text ++ run)) where
+      (same : new ≡ record t { next = new.next; comment = new.comment; doctype = new.doctype; raised = new.raised }) (next : new.next ≡ after_last (text ++ run)) where
     markup_goes_on : (reported : List ParseError) → new.raised.errors.items ≡ t.raised.errors.items ++ reported → HasRead then (i.body ++ run) (i.own ++ reported) → (here : State) → t.state ≡ here → IsStateOf here h.here.kind
         → (IsInMarkup HasRead IsOne token then table new (h.held ++ run) [] → IsHeld here table names h.here new (h.held ++ run) []) → (s : S) → Takes gives table start text run taken names s (Ok tt) s new
     markup_goes_on reported raised has here in_here is_in held s =
@@ -152,7 +156,7 @@ module _ {S : Type 0} (gives : S → Item → Result (Unit {0}) Refusal → S �
         subst (λ (y : Result (Unit {0}) Refusal). Takes gives table start text run taken names s y s last) (sym (is ∙ ap (λ (y : Refusal). Err y) why)) (ran_out_before gives table start text run names taken t h last s)
     comment_stopped e new last s (run_goes_on reported is handed has) = absurd cc
 
-    pub comment_goes_on : (new : Tokenizer) (s : S) → new ≡ record t { next = new.next; comment = new.comment; doctype = new.doctype; raised = new.raised } → new.next ≡ next_place (text ++ run) → Took (Ok tt) new → Takes gives table start text run taken names s (Ok tt) s new
+    pub comment_goes_on : (new : Tokenizer) (s : S) → new ≡ record t { next = new.next; comment = new.comment; doctype = new.doctype; raised = new.raised } → new.next ≡ after_last (text ++ run) → Took (Ok tt) new → Takes gives table start text run taken names s (Ok tt) s new
     comment_goes_on new s same next (run_ran_out reported is handed b) = absurd cc
     comment_goes_on new s same next (run_refused x reported is handed b) = absurd cc
     comment_goes_on new s same next (run_goes_on reported is handed has) =
@@ -162,7 +166,7 @@ module _ {S : Type 0} (gives : S → Item → Result (Unit {0}) Refusal → S �
     pub doctype_here : IsHeld state.Doctype table names h.here t h.held []
     doctype_here = held_in h state.Doctype in_doctype
 
-    pub doctype_goes_on : (new : Tokenizer) (s : S) → new ≡ record t { next = new.next; doctype = new.doctype } → new.next ≡ next_place (text ++ run) → HasReadDoctype new.doctype (doctype_here.body ++ run) doctype_here.own
+    pub doctype_goes_on : (new : Tokenizer) (s : S) → new ≡ record t { next = new.next; doctype = new.doctype } → new.next ≡ after_last (text ++ run) → HasReadDoctype new.doctype (doctype_here.body ++ run) doctype_here.own
         → Takes gives table start text run taken names s (Ok tt) s new
     doctype_goes_on new s same next has =
         let raised : new.raised ≡ t.raised = ap (λ (x : Tokenizer). x.raised) same in
@@ -188,7 +192,7 @@ module _ {S : Type 0} (gives : S → Item → Result (Unit {0}) Refusal → S �
   tag_stopped e new s is = subst (λ (x : Refusal). Takes gives table start text run taken later s (Err x) s new) (sym is) (ran_out_before gives table start text run later taken t now new s)
 
   -- it goes on
-  module _ (new : Tokenizer) (then : new ≡ record t { next = new.next; tag = new.tag; raised = new.raised }) (next : new.next ≡ next_place (text ++ run)) (kind : new.tag.kind ≡ t.tag.kind)
+  module _ (new : Tokenizer) (then : new ≡ record t { next = new.next; tag = new.tag; raised = new.raised }) (next : new.next ≡ after_last (text ++ run)) (kind : new.tag.kind ≡ t.tag.kind)
       (more : IsInTag t.table.now later new.tag (tag_here.body ++ run) [] new.raised.errors.items) where
     pub tag_goes_on : (s : S) → Takes gives table start text run taken later s (Ok tt) s new
     unfolding now reads_kept reads_as
@@ -206,7 +210,7 @@ module _ {S : Type 0} (gives : S → Item → Result (Unit {0}) Refusal → S �
 
 -- it ends
 module _ {S : Type 0} (gives : S → ParseError → Result (Unit {0}) Refusal → S → Type 0) (gives_token : S → Handed → Result (Unit {0}) Refusal → S → Type 0) (table : Entities) (start : RawKind) (names later : Texts) (grows : Grows names later) (text : List Placed) (taken : List Event) (t : Tokenizer)
-    (h : Reads table start t names text [] taken) (in_tag : t.state ≡ state.Tag) (run : List Placed) (place : ℕ) (next : place ≡ next_place (text ++ run)) where
+    (h : Reads table start t names text [] taken) (in_tag : t.state ≡ state.Tag) (run : List Placed) (place : ℕ) (next : place ≡ after_last (text ++ run)) where
   abbrev tag : IsInMarkedTag table names h.here t h.held []
   tag = held_in h state.Tag in_tag
 
@@ -227,20 +231,6 @@ module _ {S : Type 0} (gives : S → ParseError → Result (Unit {0}) Refusal �
   tag_finishes mid keep kind read then w new old s answer ended =
       tag_handed gives gives_token table start text run later taken (record t { next = place }) ahead tag.opening (tag.body ++ run) (sym (ap (λ (x : List Placed). x ++ run) tag.held_is ∙ ap (λ (x : List Placed). less t ∷ x) (append_assoc tag.opening tag.body run)))
       (λ end more span e is. tag.fits end more run span e is) mid keep (tag.opens ∙ ap tag_mark (sym kind)) read then (subst (λ (x : Entities). IsWholeTag x read mid.tag (tag.body ++ run) mid.raised.errors.items) h.table_is w) new old s answer ended
-
--- A RUN OF BYTES WHERE NOTHING IS HELD, of which the sink has taken what it took
-
-pub bytes_taken : {S : Type 0} (gives : S → ParseError → Result (Unit {0}) Refusal → S → Type 0) (gives_token : S → Handed → Result (Unit {0}) Refusal → S → Type 0) (table : Entities) (start : RawKind) (names : Texts) (text : List Placed) (taken : List Event) (t : Tokenizer) → Reads table start t names text [] taken → t.state ≡ state.Text
-    → (at : ℕ) (run : List ℕ) → IsUtf8 run → list_all is_plain_byte run ≡ true → 0 < length run → at + length run ≤ 0xFFFFFFFFFFFFFFFF
-    → (new : Tokenizer) → new ≡ record t { next = at + length run; script = new.script } → (is_script t.kind ≡ true → FollowsAll t.script (placed at (chars run)) new.script)
-    → (old s : S) (answer : Result (Unit {0}) Refusal) → Hands gives_token old (run_tokens (placed at (chars run))) answer s → Takes (gives_item gives gives_token) table start text (placed at run) taken names old answer s new
-bytes_taken gives gives_token table start names text taken t h in_text at run u plain some within new then follows old s answer given =
-    let is = plain_chars run plain u in
-    let next = ap (λ (x : Tokenizer). x.next) then in
-    subst (λ (x : List ℕ). Takes (gives_item gives gives_token) table start text (placed at x) taken names old answer s new) is
-    (text_taken (gives_item gives gives_token) table start names text taken t h (placed at (chars run)) in_text (all_itself (placed at (chars run)) (all_placed is_plain_character at (chars run) (run_plain run plain u))) new
-    (then ∙ ap (λ (n : ℕ). record t { next = n; script = new.script }) (sym next)) (next ∙ sym (next_run text at run plain some within) ∙ ap (λ (x : List ℕ). next_place (text ++ placed at x)) (sym is)) follows old s answer
-    (run_given gives gives_token names old s (placed at (chars run)) answer given))
 
 -- bad parts where nothing is held
 pub bad_taken : {S : Type 0} (gives : S → ParseError → Result (Unit {0}) Refusal → S → Type 0) (gives_token : S → Handed → Result (Unit {0}) Refusal → S → Type 0) (table : Entities) (start : RawKind) (names : Texts) (text : List Placed) (taken : List Event) (t : Tokenizer) → Reads table start t names text [] taken

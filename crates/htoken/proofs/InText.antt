@@ -1,7 +1,7 @@
 -- The text at the front of a run, and what ends it.
-use Rattle.htoken.proofs.Names.{◌≡◌, ◌≤◌, ◌<◌, ℕ, zero, suc, ◌+◌, true, false, eqb, ◌||◌, List, [], ◌∷◌, ◌++◌, map, length, take, drop, sym, refl, ap, ◌∙◌, subst, arith, Result, Ok, Err, Option, append_assoc, append-nil, and_from, drop-length, length-append, length-take-le, take_all, take_at, drop_at, nat_tests, chars-IsAscii, chars-nil, IsUtf8-from_ascii, list_all, prefix_len, is_ascii, len_utf8, chars, IsUtf8, string_bytes, UnknownNamedCharacterReference, ParseError, Placed, RawKind, Refusal, Texts, all, begins, past, is_alphanumeric, placed, error_if, is_clean, is_plain_character, is_text_byte, IsCut, all_placed, cut_more, placed_cut, placed_more, Entities, Piece, IsReference, named, kept, unknown, decimal, hexadecimal, no_digits, alone, ampersand, backwards, Script, TextWithReferences, Tokenizer, bare_errors, first_placed, IsBare, IsFront, RefusesFront, with_references_ran_out, with_references_refused, Tok, Span, Item, Event, Gives, Reports, Char, piece_span, HandsEvents, is_script, run_events, FollowsAll, has_references, Standing, next, tokens_in, errors_in, eof_of, AreFront, Stands, Reads, holds, Takes, take_ran_out, take_took, take_sink_refused, IsLast, IsBetween, next_place, text_front, chars_cut, has_characters, events_with_references, IsTakenFront, length-drop, all_weaker, map-append, drop-drop, Hands, gives_item, run_tokens, Handed}
+use Rattle.htoken.proofs.Names.{◌≡◌, ◌≤◌, ◌<◌, ℕ, zero, suc, ◌+◌, true, false, eqb, ◌||◌, List, [], ◌∷◌, ◌++◌, map, length, take, drop, sym, refl, ap, ◌∙◌, subst, arith, Result, Ok, Err, Option, append_assoc, append-nil, and_from, drop-length, length-append, length-take-le, take_all, take_at, drop_at, nat_tests, chars-IsAscii, chars-nil, list_all, prefix_len, is_ascii, len_utf8, chars, IsUtf8, string_bytes, UnknownNamedCharacterReference, ParseError, Placed, RawKind, Refusal, Texts, all, begins, past, is_alphanumeric, placed, error_if, is_clean, is_plain_character, is_text_byte, IsCut, all_placed, cut_more, placed_cut, placed_more, Entities, Piece, IsReference, named, kept, unknown, decimal, hexadecimal, no_digits, alone, ampersand, backwards, Script, TextWithReferences, Tokenizer, bare_errors, first_placed, IsBare, IsFront, RefusesFront, with_references_ran_out, with_references_refused, Tok, Span, Item, Event, Gives, Reports, Char, piece_span, HandsEvents, is_script, run_events, FollowsAll, has_references, Standing, next, tokens_in, errors_in, eof_of, AreFront, Stands, Reads, holds, Takes, take_ran_out, take_took, take_sink_refused, IsLast, IsBetween, after_last, text_front, chars_cut, has_characters, events_with_references, IsTakenFront, length-drop, all_weaker, map-append, drop-drop, Hands, gives_item, run_tokens, Handed, len_utf8_ascii, and_parts}
 use Rattle.htoken.specs.declared.state.State.TheVariants as state
-use Rattle.htag.proofs.Ascii.{ascii_chars, each_ascii}
+use Rattle.htag.proofs.Ascii.{ascii_chars, each_ascii, ascii_cut}
 use Rattle.htoken.proofs.Fronts.{takes_both}
 use Rattle.htoken.proofs.Cutting.{stands_on, tokens_in-append, errors_in-append}
 use Rattle.htoken.proofs.Handing.{HandsEvents-append, reports_given}
@@ -18,51 +18,33 @@ use Rattle.htoken.proofs.Referring.{all_imp, alphanumeric_itself, reference_is}
 pub all_ascii : (xs : List ℕ) → list_all is_alphanumeric xs ≡ true → list_all is_ascii xs ≡ true
 all_ascii xs h = all_weaker is_alphanumeric is_ascii (λ c letter. grind (arith, letter, nat_tests)) xs h
 
--- an `&`, letters and digits after it, and an ASCII character after these
-module _ (letters others : List ℕ) (next : ℕ) (plain : list_all is_alphanumeric letters ≡ true) (ascii : is_ascii next ≡ true) (u : IsUtf8 (38 ∷ letters ++ next ∷ others)) where
-  abbrev bare : List ℕ
-  bare = 38 ∷ letters ++ next ∷ others
+-- a run that begins with an ASCII text of `n` bytes
+module _ (x : ℕ) (xs ys run : List ℕ) (is : run ≡ x ∷ (xs ++ ys)) (n : ℕ) (long : n ≡ 1 + length xs) (ascii : list_all is_ascii (x ∷ xs) ≡ true) (u : IsUtf8 run) where
+  small : x < 128
+  small = grind (arith, (and_parts (is_ascii x) (list_all is_ascii xs) ascii).0, nat_tests)
 
-  abbrev size_of : ℕ
-  size_of = 1 + length letters
+  pub begun_taken : take n run ≡ x ∷ xs
+  begun_taken = ap (take n) is ∙ take_at (x ∷ xs) ys n (omega (arith, long))
 
-  all_bare : list_all is_ascii (38 ∷ letters) ≡ true
-  all_bare = all_ascii letters plain
+  pub begun_left : drop n run ≡ ys
+  begun_left = ap (drop n) is ∙ drop_at (x ∷ xs) ys n (omega (arith, long))
 
-  bare_parts : IsUtf8 (next ∷ others) × (chars (38 ∷ letters ++ next ∷ others) ≡ (38 ∷ letters) ++ chars (next ∷ others))
-  bare_parts = ascii_chars (38 ∷ letters) (next ∷ others) all_bare u
+  pub begun_cut : IsCut n run
+  begun_cut = ascii_cut n run (omega (arith, long, ap length is, length-append (x ∷ xs) ys)) (ap (list_all is_ascii) begun_taken ∙ ascii) u
 
-  bare_taken : take size_of (38 ∷ letters ++ next ∷ others) ≡ 38 ∷ letters
-  bare_taken = take_at (38 ∷ letters) (next ∷ others) size_of (omega arith)
+  pub begun_text : (at : ℕ) → placed at (chars (take n run)) ≡ record { ch = x; at = at } ∷ placed (at + 1) xs
+  begun_text at =
+      ap (λ (l : List ℕ). placed at (chars l)) begun_taken ∙ ap (placed at) (chars-IsAscii (x ∷ xs) (each_ascii (x ∷ xs) ascii))
+      ∙ ap (λ (k : ℕ). record { ch = x; at = at } ∷ placed (at + k) xs) (len_utf8_ascii x small)
 
-  pub bare_left : drop size_of (38 ∷ letters ++ next ∷ others) ≡ next ∷ others
-  bare_left = drop_at (38 ∷ letters) (next ∷ others) size_of (omega arith)
-
-  alone_utf8 : IsUtf8 (38 ∷ letters)
-  alone_utf8 = IsUtf8-from_ascii (38 ∷ letters) (each_ascii (38 ∷ letters) all_bare)
-
-  pub bare_chars : chars (take size_of (38 ∷ letters ++ next ∷ others)) ≡ 38 ∷ letters
-  bare_chars = ap chars bare_taken ∙ chars-IsAscii (38 ∷ letters) (each_ascii (38 ∷ letters) all_bare)
-
-  pub bare_cut : IsCut size_of (38 ∷ letters ++ next ∷ others)
-  bare_cut = record {
-    within = omega (arith, length-append (38 ∷ letters) (next ∷ others));
-    front = subst IsUtf8 (sym bare_taken) alone_utf8;
-    back = subst IsUtf8 (sym bare_left) bare_parts.0;
-  }
-
-  pub bare_first : (at : ℕ) → first_placed at (38 ∷ letters ++ next ∷ others) ≡ record { ch = 38; at = at } ∷ []
-  bare_first at = ap (λ (cs : List ℕ). placed at (take 1 cs)) bare_parts.1
-
-  pub bare_next : (at : ℕ) → first_placed at (next ∷ others) ≡ record { ch = next; at = at } ∷ []
-  bare_next at = ap (λ (cs : List ℕ). placed at (take 1 cs)) (ascii_chars (next ∷ []) others (and_from _ _ ascii refl) bare_parts.0).1
+  pub begun_first : (at : ℕ) → first_placed at run ≡ record { ch = x; at = at } ∷ []
+  begun_first at = ap (first_placed at) is ∙ ap (λ (cs : List ℕ). placed at (take 1 cs)) (ascii_chars (x ∷ xs) ys ascii (subst IsUtf8 is u)).1
 
 pub bare_within : (table : Entities) (kind : RawKind) (r : List ℕ) (size : ℕ) → IsBare table kind r size → size < length r
 bare_within table kind r size is = omega (arith, is.count_is, ap length is.run_is, length-append is.letters (is.next ∷ is.others))
 
 pub bare_cut_of : (table : Entities) (kind : RawKind) (run : List ℕ) (size : ℕ) → IsBare table kind run size → IsUtf8 run → IsCut size run
-bare_cut_of table kind run size is u =
-    subst (λ (n : ℕ). IsCut n run) (sym is.count_is) (subst (λ (x : List ℕ). IsCut (1 + length is.letters) x) (sym is.run_is) (bare_cut is.letters is.others is.next is.alphanumeric is.ascii (subst IsUtf8 is.run_is u)))
+bare_cut_of table kind run size is u = begun_cut 38 is.letters (is.next ∷ is.others) run is.run_is size is.count_is (all_ascii is.letters is.alphanumeric) u
 
 -- EVENTS
 
@@ -197,18 +179,16 @@ module _ (table : Entities) (kind : RawKind) (run : List ℕ) (at : ℕ) where
   pub front_bare : IsUtf8 run → (size : ℕ) (is : IsBare table kind run size) → IsFront table kind run at size (bare_errors is.letters is.next at) (placed at (chars (take size run)))
   front_bare u size is =
       let after : List ℕ = is.next ∷ is.others in
-      let whole : List ℕ = 38 ∷ is.letters ++ after in
-      let v : IsUtf8 whole = subst IsUtf8 is.run_is u in
+      let ascii : list_all is_ascii (38 ∷ is.letters) ≡ true = all_ascii is.letters is.alphanumeric in
       let amp : Placed = record { ch = 38; at = at } in
       let next : Placed = record { ch = is.next; at = at + size } in
       let rest : List Placed = placed (at + 1) is.letters in
       let errors : List ParseError = bare_errors is.letters is.next at in
-      let part_of : placed at (chars (take size run)) ≡ amp ∷ rest =
-      ap (λ (n : ℕ). placed at (chars (take n run))) is.count_is ∙ ap (λ (x : List ℕ). placed at (chars (take (1 + length is.letters) x))) is.run_is
-      ∙ ap (placed at) (bare_chars is.letters is.others is.next is.alphanumeric is.ascii v) in
-      let here_is : first_placed at run ≡ amp ∷ [] = ap (first_placed at) is.run_is ∙ bare_first is.letters is.others is.next is.alphanumeric is.ascii v at in
-      let left : drop size run ≡ after = ap (λ (n : ℕ). drop n run) is.count_is ∙ ap (drop (1 + length is.letters)) is.run_is ∙ bare_left is.letters is.others is.next is.alphanumeric is.ascii v in
-      let next_is : first_placed (at + size) (drop size run) ≡ next ∷ [] = ap (first_placed (at + size)) left ∙ bare_next is.letters is.others is.next is.alphanumeric is.ascii v (at + size) in
+      let part_of = begun_text 38 is.letters after run is.run_is size is.count_is ascii u at in
+      let here_is = begun_first 38 is.letters after run is.run_is size is.count_is ascii u at in
+      let left = begun_left 38 is.letters after run is.run_is size is.count_is ascii u in
+      let next_is : first_placed (at + size) (drop size run) ≡ next ∷ [] =
+      ap (first_placed (at + size)) left ∙ begun_first is.next [] is.others after refl 1 refl (and_from _ _ is.ascii refl) (subst IsUtf8 left (bare_cut_of table kind run size is u).back) (at + size) in
       record {
         cut = bare_cut_of table kind run size is u;
         stands = λ start text here taken same s end more.
@@ -287,7 +267,7 @@ module _ {S : Type 0} (gives : S → Item → Result (Unit {0}) Refusal → S �
         subst (λ (x : Entities). Stands x start end text (first_placed at run ++ more) h.here taken []) (sym h.table_is)
         (subst (λ (x : List Placed). Stands table start end text x h.here taken []) (sym (append_assoc ahead tail more) ∙ ap (λ (x : List Placed). x ++ more) (sym begins)) (here_stands end (tail ++ more)))))
 
-    pub front_reads : (new : Tokenizer) → new ≡ record t { next = new.next; script = new.script; with_references = new.with_references } → new.next ≡ next_place ((text ++ part) ++ next_ahead) → (is_script t.kind ≡ true → FollowsAll t.script part new.script)
+    pub front_reads : (new : Tokenizer) → new ≡ record t { next = new.next; script = new.script; with_references = new.with_references } → new.next ≡ after_last ((text ++ part) ++ next_ahead) → (is_script t.kind ≡ true → FollowsAll t.script part new.script)
         → Reads table start new names (text ++ part) next_ahead (taken ++ text_events errors given)
     front_reads new then next follows =
         reads_text (after_characters h.here part) (ap (λ (x : Tokenizer). x.refused) then ∙ h.accepts) (ap (λ (x : Tokenizer). x.table.now) then ∙ h.table_is) next front_stands (ap (λ (x : Tokenizer). x.kind) then ∙ h.kind_is)
@@ -332,7 +312,7 @@ module _ {S : Type 0} (gives : S → ParseError → Result (Unit {0}) Refusal �
   abbrev text_part : List Placed
   text_part = placed at (chars (take count run))
 
-  given_reads : (next : Tokenizer) → next ≡ record new { next = next.next } → next.next ≡ next_place ((text ++ placed at (chars (take count run))) ++ first_placed (at + count) (drop count run))
+  given_reads : (next : Tokenizer) → next ≡ record new { next = next.next } → next.next ≡ after_last ((text ++ placed at (chars (take count run))) ++ first_placed (at + count) (drop count run))
       → Reads table start next names (text ++ placed at (chars (take count run))) (first_placed (at + count) (drop count run)) (taken ++ text_events errors (placed at (chars (take count run))))
   given_reads next next_then place =
       let is : next ≡ record t { next = next.next; script = new.script } = next_then ∙ ap (λ (x : Tokenizer). record x { next = next.next }) then in
@@ -351,7 +331,7 @@ module _ {S : Type 0} (gives : S → ParseError → Result (Unit {0}) Refusal �
 
   pub text_refused : (s : S) (e : Refusal) (last : Tokenizer) → Hands gives_token mid (run_tokens (placed at (chars part))) (Err e) s → Takes (gives_item gives gives_token) table start text (placed at (chars run)) taken names old (Err e) s last
   text_refused s e last given =
-      let next : Tokenizer = record new { next = next_place ((text ++ text_part) ++ first_placed (at + count) (drop count run)) } in
+      let next : Tokenizer = record new { next = after_last ((text ++ text_part) ++ first_placed (at + count) (drop count run)) } in
       take_sink_refused e (text_events errors text_part) refl (both_told s (Err e) given) (run_front table start next names text run at count (taken ++ text_events errors text_part) front.cut (given_reads next refl refl))
 
 module _ {S : Type 0} (gives : S → Item → Result (Unit {0}) Refusal → S → Type 0) (table : Entities) (start : RawKind) (names : Texts) (text : List Placed) (taken : List Event) (t : Tokenizer) (run : List ℕ) (at count : ℕ) (old mid : S)
@@ -366,12 +346,12 @@ module _ {S : Type 0} (gives : S → Item → Result (Unit {0}) Refusal → S �
   left = placed (at + count) (chars (drop count run))
 
   -- nothing comes after it
-  pub all_taken : count ≡ length run → (new : Tokenizer) → new ≡ record t { next = new.next } → new.next ≡ next_place (text ++ placed at (chars run)) → Takes gives table start text (placed at (chars (take count run))) taken names old (Ok tt) mid new
+  pub all_taken : count ≡ length run → (new : Tokenizer) → new ≡ record t { next = new.next } → new.next ≡ after_last (text ++ placed at (chars run)) → Takes gives table start text (placed at (chars (take count run))) taken names old (Ok tt) mid new
   all_taken all new then next =
       let whole : take count run ≡ run = take_all count run (omega (arith, all)) in
       let none_next : next_part ≡ [] = ap (λ (x : List ℕ). placed (at + count) (take 1 (chars x))) (ap (λ (n : ℕ). drop n run) all ∙ drop-length run) ∙ ap (λ (x : List ℕ). placed (at + count) (take 1 x)) chars-nil in
       take_took front.events refl front.handed (holds (subst (λ (x : List Placed). Reads table start new names (text ++ front_part) x (taken ++ front.events)) none_next
-      (front.reads new then (next ∙ ap (λ (x : List ℕ). next_place (text ++ placed at (chars x))) (sym whole) ∙ ap next_place (sym (append-nil (text ++ front_part))) ∙ ap (λ (x : List Placed). next_place ((text ++ front_part) ++ x)) (sym none_next)))))
+      (front.reads new then (next ∙ ap (λ (x : List ℕ). after_last (text ++ placed at (chars x))) (sym whole) ∙ ap after_last (sym (append-nil (text ++ front_part))) ∙ ap (λ (x : List Placed). after_last ((text ++ front_part) ++ x)) (sym none_next)))))
 
   -- something does
   pub then_taken : (n : ℕ) (last : S) (after : Tokenizer) → IsCut n (drop count run)
@@ -390,7 +370,7 @@ module _ {S : Type 0} (gives : S → Item → Result (Unit {0}) Refusal → S �
   -- more was handed over as one text
   module _ (in_text : t.state ≡ state.Text) (may : has_references t.kind ≡ true) where
     abbrev there : Tokenizer
-    there = record t { next = next_place ((text ++ front_part) ++ next_part) }
+    there = record t { next = after_last ((text ++ front_part) ++ next_part) }
 
     here_reads : Reads table start there names (text ++ front_part) next_part (taken ++ front.events)
     here_reads = front.reads there refl refl
@@ -400,7 +380,7 @@ module _ {S : Type 0} (gives : S → Item → Result (Unit {0}) Refusal → S �
       all_events = front.events ++ events_with_references given errors
 
       on_reads : (new next : Tokenizer) → new ≡ record t { with_references = new.with_references } → next ≡ record new { next = next.next }
-          → next.next ≡ next_place ((text ++ placed at (chars (take (count + size) run))) ++ first_placed (at + (count + size)) (drop (count + size) run))
+          → next.next ≡ after_last ((text ++ placed at (chars (take (count + size) run))) ++ first_placed (at + (count + size)) (drop (count + size) run))
           → Reads table start next names (text ++ placed at (chars (take (count + size) run))) (first_placed (at + (count + size)) (drop (count + size) run)) (taken ++ all_events)
       on_reads new next then next_then place =
           let more_part : List Placed = placed (at + count) (chars (take size (drop count run))) in
@@ -416,7 +396,7 @@ module _ {S : Type 0} (gives : S → Item → Result (Unit {0}) Refusal → S �
           (subst (λ (x : List Placed). Reads table start next names ((text ++ front_part) ++ more_part) x (before ++ text_events errors given)) ahead_is
           (front_reads gives table start names (text ++ front_part) next_part before there here_reads in_text (drop count run) (at + count) size errors given more [] (sym (append-nil next_part)) next
           (is ∙ ap (λ (x : Script). record t { next = next.next; script = x; with_references = new.with_references }) (sym (ap (λ (x : Tokenizer). x.script) is)) ∙ ap (λ (x : TextWithReferences). record t { next = next.next; script = next.script; with_references = x }) (sym (ap (λ (x : Tokenizer). x.with_references) is)))
-          (place ∙ ap next_place (ap (λ (x : List Placed). x ++ first_placed (at + (count + size)) (drop (count + size) run)) (sym text_is) ∙ ap (λ (x : List Placed). ((text ++ front_part) ++ more_part) ++ x) (sym ahead_is)))
+          (place ∙ ap after_last (ap (λ (x : List Placed). x ++ first_placed (at + (count + size)) (drop (count + size) run)) (sym text_is) ∙ ap (λ (x : List Placed). ((text ++ front_part) ++ more_part) ++ x) (sym ahead_is)))
           (λ script. absurd (no_script t.kind may script)))))
 
       pub with_references_given : (new : Tokenizer) → new ≡ record t { with_references = new.with_references } → (s : S) → HandsEvents gives names mid (events_with_references given errors) (Ok tt) s → IsTakenFront gives table start new names text taken run at (count + size) old s
@@ -428,7 +408,7 @@ module _ {S : Type 0} (gives : S → Item → Result (Unit {0}) Refusal → S �
 
       with_references_not : (e : Refusal) (s : S) (last : Tokenizer) → HandsEvents gives names mid (events_with_references given errors) (Err e) s → Takes gives table start text (placed at (chars run)) taken names old (Err e) s last
       with_references_not e s last handed =
-          let next : Tokenizer = record t { next = next_place ((text ++ placed at (chars (take (count + size) run))) ++ first_placed (at + (count + size)) (drop (count + size) run)) } in
+          let next : Tokenizer = record t { next = after_last ((text ++ placed at (chars (take (count + size) run))) ++ first_placed (at + (count + size)) (drop (count + size) run)) } in
           take_sink_refused e all_events refl (HandsEvents-append gives names old mid s front.events (events_with_references given errors) (Err e) front.handed handed)
           (run_front table start next names text run at (count + size) (taken ++ all_events) (cut_more count size run cut more.cut) (on_reads t next refl refl refl))
 

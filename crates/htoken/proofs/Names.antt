@@ -33,7 +33,7 @@ pub use Rattle.htag.specs.TagWalk.{IsInTag, IsWholeTag, IsCutTag, HasAttributes}
 pub use Rattle.htag.specs.Value.{plain, reference, plain_piece}
 pub use Rattle.htag.specs.declared.kind.TagKind.{TagKind}
 pub use Rattle.htag.specs.declared.walk.TagWalk.{TagWalk}
-pub use Rattle.htext.proofs.Clean.{clean_rest, text_front, nothing_front, inner_front}
+pub use Rattle.htext.proofs.Clean.{clean_rest, text_front, nothing_front, front_of_test}
 pub use Rattle.htext.proofs.Handing.{next_bad}
 pub use Rattle.htext.proofs.Runs.{front_of, all_placed, plain_take, plain_chars, plain_drop, counted, take_more, placed_part, placed_rest, one_long}
 pub use Rattle.htext.proofs.Wide.{cut_more, placed_cut, placed_more, bytes_plain, last_char, chars_cut, has_characters, cut_last, one_more, one_refused, none_left, no_characters, first_cut, first_char, run_plain}
@@ -51,10 +51,10 @@ pub use Rattle.htoken.specs.Run.{run_tokens, run_events, replacement_run, IsText
 pub use Rattle.htoken.specs.Script.{FollowsAll, level_number, is_letter_of, HasFront, level_after, mark_after, mark_by_dash, mark_by_bang, IsMark, is_dashes, mark_is_less_bang_dash, is_read, next_word, word_after, read_back, IsWord, idle}
 pub use Rattle.htoken.specs.Spans.{IsSpan, raw_character, raw_reference, raw_end, IsSpanOf, has_references, IsRawSpan}
 pub use Rattle.htoken.specs.Standing.{next, Standing, at_start, standing_after, after_tokens}
-pub use Rattle.htoken.specs.Steps.{KeepsIf, IsFollowed, Stays, Keeps, BeginsBogus, GivesSpan, is_out, start_given, EndsTag, start_ended, end_ended, cut_ran_out, cut_given, TakesFront, TakesPart, KeepsFaults, held_in_raw, script_errors, CutsOff, EndsDoctype, doctype_ran_out, doctype_given, BeginsTag, Holds, BeginsReference, Finds, HoldsInReference, EndsStartTag, start_ran_out, tag_ran_out}
+pub use Rattle.htoken.specs.Steps.{KeepsIf, IsFollowed, Stays, Keeps, BeginsBogus, GivesSpan, is_out, start_given, EndsTag, start_ended, end_ended, cut_ran_out, cut_given, TakesPart, KeepsFaults, held_in_raw, script_errors, CutsOff, EndsDoctype, doctype_ran_out, doctype_given, BeginsTag, Holds, BeginsReference, Finds, HoldsInReference, EndsStartTag, start_ran_out, tag_ran_out}
 pub use Rattle.htoken.specs.Tag.{start_tag, end_tag, unfinished, tag_mark, IsTag}
 pub use Rattle.htoken.specs.Token.{Span, Event, Tok, is_tag, Handed, Alone, WithNames, token_in, HandedMeans, Item, ItemToken, ItemError, Gives, Reports, Char, Mean, gives_item, Doctype, doctype_token, Start, End, Comment, TokenMeans, Eof, piece_span}
-pub use Rattle.htoken.specs.Tokenizing.{Stands, Reads, IsHeld, IsStateOf, after_place, next_from, next_place, HasTaken, holds, Takes, take_ran_out, take_refused, take_sink_refused, take_took, IsLast, IsBetween, less, EndsHeld, held_ran_out, held_ended, later_errors, IsInMarkup, in_ambiguous_ampersand, IsInMarkedTag, IsInAmbiguousAmpersand, Finishes, finish_ran_out, finish_sink_refused, finish_took, IsInRcdataLessThanSign, IsInRcdataEndTagName, IsInReference}
+pub use Rattle.htoken.specs.Tokenizing.{Stands, Reads, IsHeld, IsStateOf, after_place, next_from, after_last, HasTaken, holds, Takes, take_ran_out, take_refused, take_sink_refused, take_took, IsLast, IsBetween, less, EndsHeld, held_ran_out, held_ended, later_errors, IsInMarkup, in_ambiguous_ampersand, IsInMarkedTag, IsInAmbiguousAmpersand, Finishes, finish_ran_out, finish_sink_refused, finish_took, IsInRcdataLessThanSign, IsInRcdataEndTagName, IsInReference}
 pub use Rattle.htoken.specs.Tokens.{events_of, has_refused, tokens_in, IsRefused, AreFront, eof_of, tokens_of, spans_text, Cut, errors_in, is_refused_tag, Tokens}
 pub use Rattle.htoken.specs.declared.markup_declaration_open.Opened.{Opened}
 pub use Rattle.htoken.specs.declared.markup_declaration_open.Opens.{Opens}

@@ -1,5 +1,5 @@
 -- What a tokenizer has read, and what that says of the text.
-use Rattle.htoken.proofs.Names.{◌≡◌, ℕ, List, [], ◌++◌, sym, refl, ap, ◌∙◌, subst, Result, Err, Option, None, append_assoc, append-nil, Placed, RawKind, Refusal, Memory, Texts, ParseError, Entities, State, Tokenizer, Tok, Item, Event, Standing, AreFront, eof_of, Stands, Reads, Takes, take_ran_out, next_place, IsHeld, IsStateOf, IsLast, IsBetween}
+use Rattle.htoken.proofs.Names.{◌≡◌, ℕ, List, [], ◌++◌, sym, refl, ap, ◌∙◌, subst, Result, Err, Option, None, append_assoc, append-nil, Placed, RawKind, Refusal, Memory, Texts, ParseError, Entities, State, Tokenizer, Tok, Item, Event, Standing, AreFront, eof_of, Stands, Reads, Takes, take_ran_out, after_last, IsHeld, IsStateOf, IsLast, IsBetween}
 use Rattle.htoken.specs.declared.state.State.TheVariants as state
 
 -- spans, and what follows them, are a front of the text
@@ -37,7 +37,7 @@ pub kind_in : {table : Entities} {start : RawKind} {t : Tokenizer} {names : Text
 kind_in h s e = subst (λ (x : State). IsStateOf x h.here.kind) e h.is_in
 
 -- nothing is held
-pub reads_text : {table : Entities} {start : RawKind} {new : Tokenizer} {names : Texts} {text ahead : List Placed} {taken : List Event} (here : Standing) → new.refused ≡ None → new.table.now ≡ table → new.next ≡ next_place (text ++ ahead)
+pub reads_text : {table : Entities} {start : RawKind} {new : Tokenizer} {names : Texts} {text ahead : List Placed} {taken : List Event} (here : Standing) → new.refused ≡ None → new.table.now ≡ table → new.next ≡ after_last (text ++ ahead)
     → ((end : ℕ) (more : List Placed) → Stands table start end text (ahead ++ more) here taken []) → new.kind ≡ here.kind → IsLast names new.last here.name → new.state ≡ state.Text → new.raised.errors.items ≡ [] → IsBetween here new
     → Reads table start new names text ahead taken
 reads_text {table = table} {new = new} {names = names} {text = text} {ahead = ahead} here accepts table_is next stands kind last in_text none between = record {
@@ -57,7 +57,7 @@ reads_text {table = table} {new = new} {names = names} {text = text} {ahead = ah
 
 -- the same is held
 unfoldable pub reads_as : {table : Entities} {start : RawKind} {t : Tokenizer} {names : Texts} {text ahead : List Placed} {taken : List Event} (h : Reads table start t names text ahead taken) (new : Tokenizer) (others : Texts) (after : List Placed) (events : List Event) → new.refused ≡ t.refused → new.table ≡ t.table
-    → new.next ≡ next_place (text ++ after) → ((end : ℕ) (more : List Placed) → Stands table start end h.front (h.held ++ (after ++ more)) h.here events []) → new.kind ≡ t.kind → IsLast others new.last h.here.name → IsStateOf new.state h.here.kind
+    → new.next ≡ after_last (text ++ after) → ((end : ℕ) (more : List Placed) → Stands table start end h.front (h.held ++ (after ++ more)) h.here events []) → new.kind ≡ t.kind → IsLast others new.last h.here.name → IsStateOf new.state h.here.kind
     → IsHeld new.state table others h.here new h.held after → Reads table start new others text after events
 reads_as h new others after events refused same next stands kind last is_in held = record {
   accepts = refused ∙ h.accepts;
@@ -75,7 +75,7 @@ reads_as h new others after events refused same next stands kind last is_in held
 }
 
 -- what came next is held too
-pub reads_held : {table : Entities} {start : RawKind} {t : Tokenizer} {names : Texts} {text ahead : List Placed} {taken : List Event} (h : Reads table start t names text ahead taken) (new : Tokenizer) (fed : List Placed) → new.refused ≡ t.refused → new.table ≡ t.table → new.next ≡ next_place (text ++ fed)
+pub reads_held : {table : Entities} {start : RawKind} {t : Tokenizer} {names : Texts} {text ahead : List Placed} {taken : List Event} (h : Reads table start t names text ahead taken) (new : Tokenizer) (fed : List Placed) → new.refused ≡ t.refused → new.table ≡ t.table → new.next ≡ after_last (text ++ fed)
     → ((end : ℕ) (more : List Placed) → Stands table start end h.front (h.held ++ (fed ++ more)) h.here taken []) → new.kind ≡ t.kind → new.last ≡ t.last → IsStateOf new.state h.here.kind → IsHeld new.state table names h.here new (h.held ++ fed) []
     → Reads table start new names (text ++ fed) [] (taken ++ [])
 reads_held {table = table} {start = start} {names = names} {text = text} {taken = taken} h new fed refused same next stands kind last is_in held = record {
@@ -85,7 +85,7 @@ reads_held {table = table} {start = start} {names = names} {text = text} {taken 
   here = h.here;
   table_is = ap (λ x. x.now) same ∙ h.table_is;
   text_is = ap (λ (x : List Placed). x ++ fed) h.text_is ∙ append_assoc h.front h.held fed;
-  next_is = next ∙ ap next_place (sym (append-nil (text ++ fed)));
+  next_is = next ∙ ap after_last (sym (append-nil (text ++ fed)));
   stands = λ end more. subst (λ (x : List Event). Stands table start end h.front ((h.held ++ fed) ++ more) h.here x []) (sym (append-nil taken))
       (subst (λ (x : List Placed). Stands table start end h.front x h.here taken []) (sym (append_assoc h.held fed more)) (stands end more));
   kind_is = kind ∙ h.kind_is;

@@ -7,7 +7,7 @@ use Rattle.names.specs.Names.{Texts, Grows}
 use Rattle.charref.specs.Reference.{Entities}
 use Rattle.htoken.specs.declared.tokenizer.Tokenizer.{Tokenizer}
 use Rattle.htoken.specs.Token.{Item, Event}
-use Rattle.htoken.specs.Steps.{TakesFront, TakesPart}
+use Rattle.htoken.specs.Steps.{TakesPart}
 use Rattle.htoken.specs.Tokenizing.{HasTaken, Reads, Takes, EndsHeld}
 
 -- A character is taken that is known to come next.
@@ -27,16 +27,11 @@ abbrev pub FromWhatWasTaken : Tokenizer → Texts → (Entities → RawKind → 
 FromWhatWasTaken t names Then = (table : Entities) (start : RawKind) (before : Texts) (text : List Placed) (taken : List Event) → Grows before names
     → HasTaken table start t before text taken → Then table start text taken
 
--- These characters are taken; the front of a run of plain ones; a part of a run of any.
+-- These characters are taken; a part of a run.
 abbrev pub FeedsText : {S : Type 0} → (S → Item → Result (Unit {0}) Refusal → S → Type 0) → Tokenizer → Texts → List Placed → Texts
     → S → Result (Unit {0}) Refusal → S → Tokenizer → Type 0
 FeedsText gives t before fed names old answer new next =
     FromWhatWasTaken t before (λ table start text taken. Takes gives table start text fed taken names old answer new next)
-
-abbrev pub FeedsFront : {S : Type 0} → (S → Item → Result (Unit {0}) Refusal → S → Type 0) → Tokenizer → Texts → ℕ → List ℕ → Texts → S → Result ℕ Refusal
-    → S → Tokenizer → Type 0
-FeedsFront gives t before at run names old answer new next =
-    FromWhatWasTaken t before (λ table start text taken. TakesFront gives table start text at run taken names old answer new next)
 
 abbrev pub FeedsPart : {S : Type 0} → (S → Item → Result (Unit {0}) Refusal → S → Type 0) → Tokenizer → Texts → ℕ → List ℕ → Texts → S → Result ℕ Refusal
     → S → Tokenizer → Type 0

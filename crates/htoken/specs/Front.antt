@@ -28,7 +28,7 @@ use Rattle.htoken.specs.Run.{is_not_null, run_events, StartsAt}
 use Rattle.htoken.specs.Spans.{has_references}
 use Rattle.htoken.specs.Standing.{Standing}
 use Rattle.htoken.specs.Steps.{TakesPart}
-use Rattle.htoken.specs.Tokenizing.{Reads, Stands, next_place}
+use Rattle.htoken.specs.Tokenizing.{Reads, Stands, after_last}
 
 -- the error of an `&` that is text, with these letters and digits after it and this character after those (#ambiguous-ampersand-state)
 abbrev pub bare_errors : List ℕ → ℕ → ℕ → List ParseError
@@ -146,7 +146,7 @@ pub record IsTakenFront {S : Type 0} (gives : S → Item → Result (Unit {0}) R
   pub events : List Event
   pub handed : HandsEvents gives names old events (Ok tt) new
   pub reads : (next : Tokenizer) → next ≡ record t { next = next.next }
-      → next.next ≡ next_place ((text ++ placed at (chars (take count run))) ++ first_placed (at + count) (drop count run))
+      → next.next ≡ after_last ((text ++ placed at (chars (take count run))) ++ first_placed (at + count) (drop count run))
       → Reads table start next names (text ++ placed at (chars (take count run))) (first_placed (at + count) (drop count run)) (taken ++ events)
 
 -- how a run is taken on, of which a front of this length has been taken

@@ -10,7 +10,7 @@ use Rattle.htoken.specs.Token.{Event}
 use Rattle.htoken.specs.Standing.{Standing, at_start, standing_after}
 use Rattle.htoken.specs.Beginning.{IsBeginning}
 use Rattle.htoken.specs.HeldFrom.{IsCutAt, from_of}
-use Rattle.htoken.specs.Tokenizing.{HasTaken, next_place}
+use Rattle.htoken.specs.Tokenizing.{HasTaken, after_last}
 
 -- What has been fed is a front that is cut into spans, whatever follows, whose tokens were taken, and what is held, which begins at
 -- this place and is a beginning of a longer span of the kind that is after them.
@@ -20,7 +20,7 @@ pub record HoldsBeginning (table : Entities) (start : RawKind) (text : List Plac
   pub here : Standing
   pub text_is : text ≡ front ++ held
   pub cuts : (end : ℕ) (more : List Placed) → (cut : IsCutAt table start end front (held ++ more) taken) × (standing_after (at_start start) cut.spans ≡ here)
-  pub from_is : at ≡ place (next_place text) held
+  pub from_is : at ≡ place (after_last text) held
   pub begins : IsBeginning table here held
 
 abbrev pub HeldBegins : Type 0

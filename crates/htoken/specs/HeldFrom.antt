@@ -10,7 +10,7 @@ use Rattle.htoken.specs.declared.tokenizer.Tokenizer.{Tokenizer}
 use Rattle.htoken.specs.Token.{Span, Event}
 use Rattle.htoken.specs.Standing.{at_start}
 use Rattle.htoken.specs.Tokens.{spans_text, Cut, tokens_of, has_refused, tokens_in}
-use Rattle.htoken.specs.Tokenizing.{next_place}
+use Rattle.htoken.specs.Tokenizing.{after_last}
 
 -- Whatever text comes after, this front of the text that was fed is cut into spans, and the tokens that were taken are theirs.
 pub record IsCutAt (table : Entities) (start : RawKind) (end : ℕ) (front rest : List Placed) (taken : List Event) : Type 0 where
@@ -25,7 +25,7 @@ pub record HoldsFrom (table : Entities) (start : RawKind) (text : List Placed) (
   pub front : List Placed
   pub held : List Placed
   pub text_is : text ≡ front ++ held
-  pub from_is : at ≡ place (next_place text) held
+  pub from_is : at ≡ place (after_last text) held
   pub cuts : (end : ℕ) (more : List Placed) → IsCutAt table start end front (held ++ more) taken
 
 -- the place, by the state

@@ -8,7 +8,7 @@ pub use Rattle.htag.specs.Tag.{ends_name}
 pub use Rattle.htag.specs.TagWalk.{IsInTag}
 pub use Rattle.htext.specs.Run.{IsCut, is_clean, is_plain_byte, is_text_byte}
 pub use Rattle.htext.specs.declared.decoder.TheConstants.{MAX_INPUT}
-pub use Rattle.htoken.specs.Calls.{EndsRead, FeedsFront, FeedsPart, FeedsText, TakesNext}
+pub use Rattle.htoken.specs.Calls.{EndsRead, FeedsPart, FeedsText, TakesNext}
 pub use Rattle.htoken.specs.Data.{is_no_markup}
 pub use Rattle.htoken.specs.MarkupDeclarationOpen.{IsOpened, OpensAs, front_of}
 pub use Rattle.htoken.specs.Front.{AddsReferences, GivesFront, GivesTextWithReferences, IsBare, IsGathered, IsWhole, RefusesFront, ShowsAmpersand, TakesOn, TellsText, bare_errors, first_placed}
@@ -20,9 +20,9 @@ pub use Rattle.htoken.specs.Run.{IsTextWithReferences, TakesTextWithReferences, 
 pub use Rattle.htoken.specs.Script.{FollowsAll, HasFront, idle, is_dashes, mark_is_less_bang_dash, is_read, level_after, level_number, mark_after, word_after}
 pub use Rattle.htoken.specs.Spans.{has_references}
 pub use Rattle.htoken.specs.Standing.{start_kind}
-pub use Rattle.htoken.specs.Steps.{KeepsIf, BeginsBogus, BeginsNamed, BeginsReference, BeginsTag, CutsOff, EndsDoctype, EndsSpan, EndsStartTag, EndsTag, Finds, GivesSpan, Holds, HoldsInReference, IsFollowed, KeepsFaults, TakesFront, TakesPart, held_in_raw, script_errors}
+pub use Rattle.htoken.specs.Steps.{KeepsIf, BeginsBogus, BeginsNamed, BeginsReference, BeginsTag, CutsOff, EndsDoctype, EndsSpan, EndsStartTag, EndsTag, Finds, GivesSpan, Holds, HoldsInReference, IsFollowed, KeepsFaults, TakesPart, held_in_raw, script_errors}
 pub use Rattle.htoken.specs.Token.{Alone, Char, Comment, End, Eof, Event, Gives, Handed, HandedMeans, Reports, WithNames, gives_item, token_at}
-pub use Rattle.htoken.specs.Tokenizing.{EndsHeld, Finishes, HasTaken, IsInAmbiguousAmpersand, Reads, Takes, after_place, less}
+pub use Rattle.htoken.specs.Tokenizing.{EndsHeld, Finishes, HasTaken, IsInAmbiguousAmpersand, Reads, Takes, after_place, after_last, less}
 pub use Rattle.htoken.specs.declared.token.Token.{Token as Given}
 pub use Rattle.htoken.specs.declared.token.Token.TheVariants.{Char as CharToken}
 pub use Rattle.htoken.specs.declared.tokenizer.Tokenizer.{Tokenizer as Reader}

@@ -7,7 +7,7 @@ ghost use Rattle.std.specs.Str.{chars};
 ghost use Rattle.htoken.specs.Vocabulary.{bare_errors, Character, Entities, Error, Event, FeedsPart, first_placed, FollowsAll, gives_item, GivesFront, Hands, is_clean, is_script, is_text_byte, IsBare, IsCut, IsWhole, Kind, MAX_INPUT, placed, Reads, RefusesFront, run_tokens, ShowsAmpersand, Takes, TakesOn, TakesPart, TellsText, Texts};
 
 use crate::hand::{give_piece, tell_unknown};
-use crate::run::last_start;
+use crate::run::after_last;
 use crate::sink::TokenSink;
 use crate::state::State;
 use crate::text::allows_references;
@@ -209,7 +209,7 @@ impl<'t> Tokenizer<'t> {
         ensures few { IfOk result (λ all. (0 < all) × IsCut all run.now) }
     {
         if count == run.len() {
-            self.next = after(at + last_start(run) as u64);
+            self.next = after_last(run, at);
             return Ok(count);
         }
         let end = at + count as u64;

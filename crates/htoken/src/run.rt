@@ -1,15 +1,13 @@
 //! Runs of plain characters, taken as wholes where a state allows it.
 
-ghost use Rattle.std.specs.Prelude.{◌≡◌, ◌≤◌, ◌<◌, ◌+◌, ℕ, List, true, false, Some, Err, IfErr, IfOk, length, take, drop};
+ghost use Rattle.std.specs.Prelude.{◌≡◌, ◌≤◌, ◌<◌, ◌+◌, ◌++◌, List, true, false, Some, Err, IfErr, IfOk, length};
 ghost use Rattle.std.specs.List.{list_all, prefix_len};
 ghost use Rattle.std.specs.Str.{chars};
-ghost use Rattle.htoken.specs.Vocabulary.{Character, Entities, Event, FeedsFront, FeedsPart, FeedsText, FollowsAll, gives_item, Grows, HasTaken, is_clean, is_only_data, is_plain_byte, is_script, IsCut, Kind, MAX_INPUT, placed, Refused, replacement_run, Takes, Texts};
-ghost use Rattle.std.specs.Char.{encode_utf8};
+ghost use Rattle.htoken.specs.Vocabulary.{Character, Entities, Event, FeedsPart, FeedsText, gives_item, Grows, HasTaken, is_clean, is_only_data, is_script, IsCut, Kind, MAX_INPUT, after_last, placed, Refused, replacement_run, Takes, Texts};
 
 use crate::sink::TokenSink;
 use crate::state::State;
 use crate::tokenizer::{Tokenizer, after};
-use htext::inner_run;
 use names::{Names, Refusal};
 
 /// How many bytes are before the first one that may end a comment, or is a fault in it.
@@ -25,31 +23,17 @@ fn count_data(run: &str) -> usize
     run.len()
 }
 
-/// Where the last character of a text begins.
-#[inline]
-pub(crate) fn last_start(text: &str) -> usize
-    requires { 0 < length text.now }
-    ensures cut { IsCut result text.now }
-    ensures last { (c : ℕ) × (drop result text.now ≡ encode_utf8 c) }
+/// One more than the place of the last character of a text, the first byte of which is at `at`.
+#[inline(always)]
+pub(crate) fn after_last(text: &str, at: u64) -> u64
+    requires some { 0 < length text.now }
+    requires within { at + length text.now ≤ MAX_INPUT }
+    ensures { (before : List Character) → result ≡ after_last (before ++ placed at (chars text.now)) }
 {
     match text.char_indices().next_back() {
-        Some((index, _)) => index,
-        None => 0,
+        Some((index, _)) => after(at + index as u64),
+        None => at,
     }
-}
-
-/// How many bytes at the front of a run are ASCII up to the next `<` or `&`, or past the next `>`.
-#[inline(always)]
-fn inner_part(run: &str) -> usize
-    requires clean { list_all is_clean (chars run.now) ≡ true }
-    ensures cut { IsCut result run.now }
-    ensures plain { list_all is_plain_byte (take result run.now) ≡ true }
-{
-    let count = inner_run(run.as_bytes());
-    if count < run.len() && run.as_bytes()[count] == b'>' {
-        return count + 1;
-    }
-    count
 }
 
 impl<'t> Tokenizer<'t> {
@@ -185,8 +169,7 @@ impl<'t> Tokenizer<'t> {
     }
 
     /// Takes a part of a run: where nothing is held, the text at its front, what ends that, and a whole tag without attributes or the name of another
-    /// start tag; in a tag, all up to its end; after a `<` or `</`, one character; and where something else is held, what is ASCII up to what may end
-    /// it, or one character. Returns the length.
+    /// start tag; in a tag, all up to its end; in a comment or a doctype, what is only data; and else one character. Returns the length.
     #[inline(always)]
     fn take_part<S: TokenSink>(
         &mut self,
@@ -205,10 +188,12 @@ impl<'t> Tokenizer<'t> {
         match self.state {
             State::Text => self.text_and_tag(names, run, at, sink),
             State::Tag => self.part_of_tag(names, run, at, sink),
+            State::Comment => self.part_of_comment(names, run, at, sink),
+            State::Doctype => self.part_of_doctype(names, run, at, sink),
             // With arms of their own, so that the state is not asked for again.
             State::TagOpen => self.one_of_run(names, run, at, sink),
             State::EndTagOpen(_) => self.one_of_run(names, run, at, sink),
-            _ => self.part_of_markup(names, run, at, sink),
+            _ => self.one_of_run(names, run, at, sink),
         }
     }
 
@@ -258,7 +243,7 @@ impl<'t> Tokenizer<'t> {
         let (count, ended) = self
             .tag
             .take_run(self.table, names, run, at, &mut self.raised.errors)?;
-        self.next = after(at + last_start(&run[..count]) as u64);
+        self.next = after_last(&run[..count], at);
         if ended {
             self.end_tag(names, sink)?;
             return Ok(count);
@@ -285,126 +270,8 @@ impl<'t> Tokenizer<'t> {
         Ok(ch.len_utf8())
     }
 
-    /// Takes what is ASCII up to the next `<` or `&`, or past the next `>`, or else one character. Returns the length.
-    #[inline(always)]
-    fn part_of_markup<S: TokenSink>(
-        &mut self,
-        names: &mut Names,
-        run: &str,
-        at: u64,
-        sink: &mut S,
-    ) -> Result<usize, Refusal>
-        requires some { 0 < length run.now }
-        requires clean { list_all is_clean (chars run.now) ≡ true }
-        requires within { at + length run.now ≤ MAX_INPUT }
-        ensures takes { FeedsPart (gives_item S.gives S.gives_token) self.old names.old at run.now names.new sink.old result sink.new self.new }
-        ensures few { IfOk result (λ count. (0 < count) × IsCut count run.now) }
-        ensures grows { Grows names.old names.new }
-    {
-        let count = inner_part(run);
-        if count == 0 {
-            return self.one_of_run(names, run, at, sink);
-        }
-        self.take_fronts(names, &run[..count], at, sink)
-    }
-
-    /// Takes a run, a front of what is left of it after another. Returns its length.
-    fn take_fronts<S: TokenSink>(
-        &mut self,
-        names: &mut Names,
-        run: &str,
-        at: u64,
-        sink: &mut S,
-    ) -> Result<usize, Refusal>
-        requires plain { list_all is_plain_byte run.now ≡ true }
-        requires within { at + length run.now ≤ MAX_INPUT }
-        ensures takes { FeedsFront (gives_item S.gives S.gives_token) self.old names.old at run.now names.new sink.old result sink.new self.new }
-        ensures all { IfOk result (λ count. count ≡ length run.now) }
-        ensures grows { Grows names.old names.new }
-    {
-        let mut count = 0;
-        while count < run.len() {
-            let more = self.take_front(names, &run[count..], at + count as u64, sink)?;
-            count += more;
-        }
-        Ok(count)
-    }
-
-    /// Takes one character or more at the front of a run, and returns how many.
-    fn take_front<S: TokenSink>(
-        &mut self,
-        names: &mut Names,
-        run: &str,
-        at: u64,
-        sink: &mut S,
-    ) -> Result<usize, Refusal>
-        requires some { 0 < length run.now }
-        requires plain { list_all is_plain_byte run.now ≡ true }
-        requires within { at + length run.now ≤ MAX_INPUT }
-        ensures takes { FeedsFront (gives_item S.gives S.gives_token) self.old names.old at run.now names.new sink.old result sink.new self.new }
-        ensures few { IfOk result (λ count. (0 < count) × (count ≤ length run.now)) }
-        ensures grows { Grows names.old names.new }
-    {
-        match self.state {
-            State::Text => self.run_of_text(run, at, sink),
-            State::Comment => self.run_of_comment(names, run, at, sink),
-            State::Doctype => self.run_of_doctype(names, run, at, sink),
-            _ => self.take_first(names, run, at, sink),
-        }
-    }
-
-    /// Takes the first character of a run, and returns 1.
-    #[inline(always)]
-    fn take_first<S: TokenSink>(
-        &mut self,
-        names: &mut Names,
-        run: &str,
-        at: u64,
-        sink: &mut S,
-    ) -> Result<usize, Refusal>
-        requires some { 0 < length run.now }
-        requires plain { list_all is_plain_byte run.now ≡ true }
-        ensures takes { FeedsFront (gives_item S.gives S.gives_token) self.old names.old at run.now names.new sink.old result sink.new self.new }
-        ensures one { IfOk result (λ count. count ≡ 1) }
-        ensures grows { Grows names.old names.new }
-    {
-        self.take(names, char::from(run.as_bytes()[0]), at, sink)?;
-        Ok(1)
-    }
-
-    /// Takes a run where nothing is held: the sink takes it as a whole. Returns its length.
-    fn run_of_text<S: TokenSink>(
-        &mut self,
-        run: &str,
-        at: u64,
-        sink: &mut S,
-    ) -> Result<usize, Refusal>
-        requires text { self.old.state ≡ State.Text }
-        requires some { 0 < length run.now }
-        requires plain { list_all is_plain_byte run.now ≡ true }
-        requires within { at + length run.now ≤ MAX_INPUT }
-        ensures takes { (names : Texts) → FeedsFront (gives_item S.gives S.gives_token) self.old names at run.now names sink.old result sink.new self.new }
-        ensures all { IfOk result (λ count. count ≡ length run.now) }
-    {
-        self.next = at + run.len() as u64;
-        self.follow_run(run);
-        sink.take_run(run, at)?;
-        Ok(run.len())
-    }
-
-    /// Follows the level of script data.
-    #[inline(always)]
-    pub(crate) fn follow_run(&mut self, run: &str)
-        ensures then { self.new ≡ record self.old { script = self.new.script } }
-        ensures follows { (at : ℕ) → is_script self.old.kind ≡ true → FollowsAll self.old.script (placed at (chars run.now)) self.new.script }
-    {
-        if self.is_in_script() {
-            self.script = self.script.after_text(run);
-        }
-    }
-
-    /// Takes the characters of a comment at the front of a run that are only data, or the first one.
-    fn run_of_comment<S: TokenSink>(
+    /// Takes the characters of a comment at the front of a run that are only data, or the first one. Returns the length.
+    fn part_of_comment<S: TokenSink>(
         &mut self,
         names: &mut Names,
         run: &str,
@@ -413,23 +280,23 @@ impl<'t> Tokenizer<'t> {
     ) -> Result<usize, Refusal>
         requires comment { self.old.state ≡ State.Comment }
         requires some { 0 < length run.now }
-        requires plain { list_all is_plain_byte run.now ≡ true }
         requires within { at + length run.now ≤ MAX_INPUT }
-        ensures takes { FeedsFront (gives_item S.gives S.gives_token) self.old names.old at run.now names.new sink.old result sink.new self.new }
-        ensures few { IfOk result (λ count. (0 < count) × (count ≤ length run.now)) }
+        ensures takes { FeedsPart (gives_item S.gives S.gives_token) self.old names.old at run.now names.new sink.old result sink.new self.new }
+        ensures few { IfOk result (λ count. (0 < count) × IsCut count run.now) }
         ensures grows { Grows names.old names.new }
     {
         let count = count_data(run);
         if count == 0 {
-            return self.take_first(names, run, at, sink);
+            return self.one_of_run(names, run, at, sink);
         }
-        self.next = at + count as u64;
-        self.comment.take_run(&run[..count], at, &mut self.raised)?;
+        let front = &run[..count];
+        self.comment.take_run(front, at, &mut self.raised)?;
+        self.next = after_last(front, at);
         Ok(count)
     }
 
-    /// Takes the characters of a doctype at the front of a run that are only data, or the first one.
-    fn run_of_doctype<S: TokenSink>(
+    /// The same of a doctype.
+    fn part_of_doctype<S: TokenSink>(
         &mut self,
         names: &mut Names,
         run: &str,
@@ -438,18 +305,18 @@ impl<'t> Tokenizer<'t> {
     ) -> Result<usize, Refusal>
         requires doctype { self.old.state ≡ State.Doctype }
         requires some { 0 < length run.now }
-        requires plain { list_all is_plain_byte run.now ≡ true }
         requires within { at + length run.now ≤ MAX_INPUT }
-        ensures takes { FeedsFront (gives_item S.gives S.gives_token) self.old names.old at run.now names.new sink.old result sink.new self.new }
-        ensures few { IfOk result (λ count. (0 < count) × (count ≤ length run.now)) }
+        ensures takes { FeedsPart (gives_item S.gives S.gives_token) self.old names.old at run.now names.new sink.old result sink.new self.new }
+        ensures few { IfOk result (λ count. (0 < count) × IsCut count run.now) }
         ensures grows { Grows names.old names.new }
     {
-        let count = self.doctype.data_run(run);
+        let count = run.floor_char_boundary(self.doctype.data_run(run));
         if count == 0 {
-            return self.take_first(names, run, at, sink);
+            return self.one_of_run(names, run, at, sink);
         }
-        self.next = at + count as u64;
-        self.doctype.take_run(&run[..count])?;
+        let front = &run[..count];
+        self.doctype.take_run(front)?;
+        self.next = after_last(front, at);
         Ok(count)
     }
 }

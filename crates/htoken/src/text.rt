@@ -1,7 +1,8 @@
 //! Text: data, RCDATA, RAWTEXT, script data and PLAINTEXT (HTML Standard, `#data-state` to `#plaintext-state`).
 
-ghost use Rattle.std.specs.Prelude.{◌≡◌, ◌∷◌, [], true, ◌&&◌, is_some};
-ghost use Rattle.htoken.specs.Vocabulary.{Char, ends_by, Gives, gives_item, HandsEvents, has_references, is_raw, is_script, IsFollowed, level_number, TakesNext, Texts};
+ghost use Rattle.std.specs.Prelude.{◌≡◌, ◌∷◌, ℕ, [], true, ◌&&◌, is_some};
+ghost use Rattle.std.specs.Str.{chars};
+ghost use Rattle.htoken.specs.Vocabulary.{Char, ends_by, Gives, gives_item, HandsEvents, has_references, is_raw, is_script, IsFollowed, FollowsAll, level_number, placed, TakesNext, Texts};
 
 use crate::hand::{give, give_faulty};
 use crate::sink::TokenSink;
@@ -112,6 +113,17 @@ impl<'t> Tokenizer<'t> {
     {
         if self.is_in_script() {
             self.script = self.script.after(ch);
+        }
+    }
+
+    /// The same for a run.
+    #[inline(always)]
+    pub(crate) fn follow_run(&mut self, run: &str)
+        ensures then { self.new ≡ record self.old { script = self.new.script } }
+        ensures follows { (at : ℕ) → is_script self.old.kind ≡ true → FollowsAll self.old.script (placed at (chars run.now)) self.new.script }
+    {
+        if self.is_in_script() {
+            self.script = self.script.after_text(run);
         }
     }
 

@@ -1,5 +1,6 @@
-use Rattle.htoken.proofs.Names.{◌≡◌, true, false, ℕ, ◌+◌, ◌<◌, ◌≤◌, List, length, take, drop, sym, ap, ◌∙◌, subst, arith, rules, slice_index, is_ascii, list_all, prefix_len, get_or-drop, prefix_len-le-length, is_alphanumeric, placed, IsRead, IsBare, has_references}
-use Rattle.htoken.proofs.Bare.{alone_bare, letters_bare, opens, rest_long, rest_of, whole_is}
+use Rattle.htoken.proofs.Names.{◌≡◌, true, false, ℕ, ◌+◌, ◌<◌, ◌≤◌, List, length, take, drop, sym, ap, ◌∙◌, subst, arith, rules, slice_index, is_ascii, list_all, prefix_len, get_or-drop, prefix_len-le-length, is_alphanumeric, placed, IsRead, IsBare, has_references, length-drop}
+use Rattle.htoken.proofs.Bare.{alone_bare, letters_bare, rest_of, whole_is}
+use Rattle.htag.proofs.QuietValues.{first_amp}
 use Rattle.htoken.proofs.front.at_ampersand.Goals as goal
 
 pub returns-then-first-ne35 : goal.returns-then-first-ne35
@@ -18,7 +19,7 @@ overflow_add-size c =
     let all = c.as_bytes-bytes.result.now in
     let counted = c.alphanumeric_run-size.ensures ∙ ap (prefix_len is_alphanumeric) (rest_of all) in
     let long : 1 < length all = search rules in
-    omega (arith, counted, prefix_len-le-length is_alphanumeric (drop 1 all), rest_long all, long, c.as_bytes-bytes.ensures.len)
+    omega (arith, counted, prefix_len-le-length is_alphanumeric (drop 1 all), length-drop 1 all, long, c.as_bytes-bytes.ensures.len)
 
 pub returns-then-is_ascii : goal.returns-then-is_ascii
 returns-then-is_ascii c =
@@ -31,13 +32,13 @@ returns-then-is_ascii c =
     let k = c.in-Some.field-0-1 in
     let few = subst (λ (x : List ℕ). (0 < k) × (k ≤ length x)) (rest_of all) c.in-Some.ensures.few in
     let counted : c.alphanumeric_run-size.result ≡ prefix_len is_alphanumeric bytes = c.alphanumeric_run-size.ensures ∙ ap (prefix_len is_alphanumeric) (rest_of all) in
-    let left : prefix_len is_alphanumeric bytes < length bytes = omega (arith, c.if-size-bytes.true, counted, rest_long all, long) in
+    let left : prefix_len is_alphanumeric bytes < length bytes = omega (arith, c.if-size-bytes.true, counted, length-drop 1 all, long) in
     let ascii : is_ascii (slice_index bytes (prefix_len is_alphanumeric bytes)) ≡ true =
     ap is_ascii (get_or-drop 1 all (prefix_len is_alphanumeric bytes) 0 ∙ ap (λ (n : ℕ). slice_index all (1 + n)) (sym counted)) ∙ sym c.is_ascii-then-size-bytes.ensures ∙ c.if-is_ascii.true in
     subst (λ (n : ℕ). IsBare c.args.table.now c.args.kind run (1 + n)) (sym counted)
     (letters_bare c.args.table.now c.args.kind bytes c.in-Some.found k few.0 few.1 c.if-found.true
     (λ at after. subst (λ (x : List ℕ). IsRead c.args.table.now false (placed at (take k x)) after c.in-Some.found) (rest_of all) (c.in-Some.ensures.read at after)) run
-    (sym c.as_bytes-bytes.ensures.value ∙ opens all (omega (arith, long)) amp) may left ascii)
+    (sym c.as_bytes-bytes.ensures.value ∙ first_amp all (omega (arith, long)) amp) may left ascii)
 
 pub returns-in-Some-2 : goal.returns-in-Some-2
 returns-in-Some-2 c =
@@ -48,6 +49,6 @@ returns-in-Some-2 c =
     let amp : slice_index all 0 ≡ 38 = search rules in
     let some : 0 < length all = search rules in
     let few = subst (λ (x : List ℕ). (0 < k) × (k ≤ length x)) (rest_of all) c.in-Some.ensures.few in
-    whole_is c.args.table.now c.args.kind c.args.run.now bytes c.in-Some.found k may c.in-Some.ensures.table (sym c.as_bytes-bytes.ensures.value ∙ opens all some amp) few.1
+    whole_is c.args.table.now c.args.kind c.args.run.now bytes c.in-Some.found k may c.in-Some.ensures.table (sym c.as_bytes-bytes.ensures.value ∙ first_amp all some amp) few.1
     (subst (λ (x : List ℕ). list_all is_ascii (take k x) ≡ true) (rest_of all) c.in-Some.ensures.ascii) c.if-found.false c.if-found-le1.true
     (λ at after. subst (λ (x : List ℕ). IsRead c.args.table.now false (placed at (take k x)) after c.in-Some.found) (rest_of all) (c.in-Some.ensures.read at after))

@@ -1,17 +1,17 @@
-use Rattle.htoken.proofs.Names.{◌≡◌, ◌++◌, ◌∙◌, [], ℕ, List, refl, sym, ap, subst, length, take, arith, length-take-le, chars, placed, front_of, IsCharBoundary-from_drop, grows_on, gives_item, next_place, err_is}
+use Rattle.htoken.proofs.Names.{◌≡◌, ◌++◌, ◌∙◌, [], ℕ, List, refl, sym, ap, subst, take, arith, chars, placed, front_of, IsCharBoundary-from_drop, grows_on, gives_item, after_last, err_is}
 use Rattle.htoken.proofs.Fronts.{cut_refused}
-use Rattle.htoken.proofs.InRun.{next_last, tag_finishes, tag_goes_on, tag_read, tag_stopped}
+use Rattle.htoken.proofs.InRun.{tag_finishes, tag_goes_on, tag_read, tag_stopped}
 use Rattle.htoken.proofs.Taking.{IsCalm, taken_now}
 use Rattle.htoken.proofs.tokenizer.Tokenizer.part_of_tag.Goals as goal
 
 pub range-requires-clause-end_boundary : goal.range-requires-clause-end_boundary
 range-requires-clause-end_boundary g c = let cut = c.in_ok-count.ensures.cut in IsCharBoundary-from_drop c.args.run.now c.in_ok-count.count cut.within cut.back
 
-pub last_start-requires : goal.last_start-requires
-last_start-requires g c = omega (arith, c.in_ok-count.ensures.some c.requires.some, ap length (c.range.ensures.value ∙ front_of c.in_ok-count.count c.args.run.now), length-take-le c.in_ok-count.count c.args.run.now c.in_ok-count.ensures.cut.within)
+pub after_last-self-requires-clause-some : goal.after_last-self-requires-clause-some
+after_last-self-requires-clause-some g c = omega (arith, c.in_ok-count.ensures.some c.requires.some, c.range.ensures.len)
 
-pub overflow_add-at : goal.overflow_add-at
-overflow_add-at g c = omega (arith, c.last_start.ensures.cut.within, ap length (c.range.ensures.value ∙ front_of c.in_ok-count.count c.args.run.now), length-take-le c.in_ok-count.count c.args.run.now c.in_ok-count.ensures.cut.within, c.requires.within)
+pub after_last-self-requires-clause-within : goal.after_last-self-requires-clause-within
+after_last-self-requires-clause-within g c = omega (arith, c.in_ok-count.ensures.cut.within, c.range.ensures.len, c.requires.within)
 
 pub returns-in_err-count-clause-takes : goal.returns-in_err-count-clause-takes
 returns-in_err-count-clause-takes g c =
@@ -27,11 +27,10 @@ returns-clause-takes g c = λ table start before text taken grows h.
     let count = c.in_ok-count.count in
     let k = taken_now table start c.args.self.now before c.args.names.now text taken (subst IsCalm (sym c.requires.tag) tt) grows h in
     let gives = gives_item g.S.ErrorSink.gives g.S.TokenSink.gives_token in
-    let last = c.last_start.ensures.last in
     let part_is : c.range.result.now ≡ take count run = c.range.ensures.value ∙ front_of count run in
-    let t = record c.args.self.now { next = c.after-self.result; tag = c.take_run.new.self; raised = record { errors = c.take_run.new.errors } } in
+    let t = record c.args.self.now { next = c.after_last-self.result; tag = c.take_run.new.self; raised = record { errors = c.take_run.new.errors } } in
     tag_goes_on gives table start c.args.names.now c.take_run.new.names c.take_run.ensures.grows text taken c.args.self.now k c.requires.tag (placed c.args.at (chars (take count run))) t refl
-    (c.after-self.ensures ∙ next_last text c.args.at c.last_start.result c.range.result.now last.0 c.last_start.ensures.cut last.1 ∙ ap (λ (x : List ℕ). next_place (text ++ placed c.args.at (chars x))) part_is) c.in_ok-count.ensures.kind
+    (c.after_last-self.ensures text ∙ ap (λ (x : List ℕ). after_last (text ++ placed c.args.at (chars x))) part_is) c.in_ok-count.ensures.kind
     (rw c.if-ended.false at (c.in_ok-count.ensures.takes _ (tag_read gives table start c.args.names.now c.take_run.new.names c.take_run.ensures.grows text taken c.args.self.now k c.requires.tag []))) c.args.sink.now
 
 pub returns-then-ended-clause-takes : goal.returns-then-ended-clause-takes
@@ -40,11 +39,10 @@ returns-then-ended-clause-takes g c = λ table start before text taken grows h.
     let count = c.in_ok-count.count in
     let k = taken_now table start c.args.self.now before c.args.names.now text taken (subst IsCalm (sym c.requires.tag) tt) grows h in
     let gives = gives_item g.S.ErrorSink.gives g.S.TokenSink.gives_token in
-    let last = c.last_start.ensures.last in
     let part_is : c.range.result.now ≡ take count run = c.range.ensures.value ∙ front_of count run in
-    let t = record c.args.self.now { next = c.after-self.result; tag = c.take_run.new.self; raised = record { errors = c.take_run.new.errors } } in
-    tag_finishes g.S.ErrorSink.gives g.S.TokenSink.gives_token table start c.args.names.now c.end_tag.new.names (grows_on _ _ _ c.take_run.ensures.grows c.end_tag.ensures.grows) text taken c.args.self.now k c.requires.tag (placed c.args.at (chars (take count run))) c.after-self.result
-    (c.after-self.ensures ∙ next_last text c.args.at c.last_start.result c.range.result.now last.0 c.last_start.ensures.cut last.1 ∙ ap (λ (x : List ℕ). next_place (text ++ placed c.args.at (chars x))) part_is)
+    let t = record c.args.self.now { next = c.after_last-self.result; tag = c.take_run.new.self; raised = record { errors = c.take_run.new.errors } } in
+    tag_finishes g.S.ErrorSink.gives g.S.TokenSink.gives_token table start c.args.names.now c.end_tag.new.names (grows_on _ _ _ c.take_run.ensures.grows c.end_tag.ensures.grows) text taken c.args.self.now k c.requires.tag (placed c.args.at (chars (take count run))) c.after_last-self.result
+    (c.after_last-self.ensures text ∙ ap (λ (x : List ℕ). after_last (text ++ placed c.args.at (chars x))) part_is)
     t (record { kind_is = refl; last_is = refl; at_is = refl; stays = (refl, refl, refl) }) c.in_ok-count.ensures.kind c.take_run.new.names c.end_tag.ensures.grows
     (rw c.if-ended.true at (c.in_ok-count.ensures.takes _ (tag_read gives table start c.args.names.now c.take_run.new.names c.take_run.ensures.grows text taken c.args.self.now k c.requires.tag []))) _ _ _ _ c.in_ok-end_tag.ensures.tag
 
@@ -55,12 +53,11 @@ returns-in_err-end_tag-clause-takes g c =
     let count = c.in_ok-count.count in
     let k = taken_now table start c.args.self.now before c.args.names.now text taken (subst IsCalm (sym c.requires.tag) tt) grows h in
     let gives = gives_item g.S.ErrorSink.gives g.S.TokenSink.gives_token in
-    let last = c.last_start.ensures.last in
     let part_is : c.range.result.now ≡ take count run = c.range.ensures.value ∙ front_of count run in
-    let t = record c.args.self.now { next = c.after-self.result; tag = c.take_run.new.self; raised = record { errors = c.take_run.new.errors } } in
+    let t = record c.args.self.now { next = c.after_last-self.result; tag = c.take_run.new.self; raised = record { errors = c.take_run.new.errors } } in
     cut_refused gives table start text c.args.at count run c.in_ok-count.ensures.cut taken _ _ _ _ _ _
-    (tag_finishes g.S.ErrorSink.gives g.S.TokenSink.gives_token table start c.args.names.now c.end_tag.new.names (grows_on _ _ _ c.take_run.ensures.grows c.end_tag.ensures.grows) text taken c.args.self.now k c.requires.tag (placed c.args.at (chars (take count run))) c.after-self.result
-    (c.after-self.ensures ∙ next_last text c.args.at c.last_start.result c.range.result.now last.0 c.last_start.ensures.cut last.1 ∙ ap (λ (x : List ℕ). next_place (text ++ placed c.args.at (chars x))) part_is)
+    (tag_finishes g.S.ErrorSink.gives g.S.TokenSink.gives_token table start c.args.names.now c.end_tag.new.names (grows_on _ _ _ c.take_run.ensures.grows c.end_tag.ensures.grows) text taken c.args.self.now k c.requires.tag (placed c.args.at (chars (take count run))) c.after_last-self.result
+    (c.after_last-self.ensures text ∙ ap (λ (x : List ℕ). after_last (text ++ placed c.args.at (chars x))) part_is)
     t (record { kind_is = refl; last_is = refl; at_is = refl; stays = (refl, refl, refl) }) c.in_ok-count.ensures.kind c.take_run.new.names c.end_tag.ensures.grows
     (rw c.if-ended.true at (c.in_ok-count.ensures.takes _ (tag_read gives table start c.args.names.now c.take_run.new.names c.take_run.ensures.grows text taken c.args.self.now k c.requires.tag []))) _ _ _ _ c.in_err-end_tag.ensures.tag))
 

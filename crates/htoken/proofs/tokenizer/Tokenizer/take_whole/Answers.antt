@@ -5,7 +5,7 @@ use Rattle.htoken.proofs.tokenizer.Tokenizer.take_whole.Goals as goal
 pub returns-in_err-give_piece : goal.returns-in_err-give_piece
 returns-in_err-give_piece g c =
     rw (err_is c.from_residual.result _ c.from_residual.ensures.1) (λ table start names text taken h.
-    whole_refused (gives_item g.S.ErrorSink.gives g.S.TokenSink.gives_token) table start names text taken c.args.self.now c.args.run.now c.args.at c.utf8.run c.args.found.now c.args.count c.requires.whole c.requires.text h _ refl c.after-self.ensures _ _ _ (c.in_err-give_piece.ensures names))
+    whole_refused (gives_item g.S.ErrorSink.gives g.S.TokenSink.gives_token) table start names text taken c.args.self.now c.args.run.now c.args.at c.utf8.run c.args.found.now c.args.count c.requires.whole c.requires.text h _ _ _ _ (c.in_err-give_piece.ensures names))
 
 pub returns-then-found-eq0 : goal.returns-then-found-eq0
 returns-then-found-eq0 g c = λ table start names text taken h.
