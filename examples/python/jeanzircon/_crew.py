@@ -2,6 +2,7 @@
 from __future__ import annotations
 
 import contextlib
+import functools
 import json
 import multiprocessing
 import queue
@@ -13,6 +14,7 @@ from collections import Counter
 from collections.abc import Callable, Iterable, Iterator
 from multiprocessing import resource_tracker
 from multiprocessing.connection import Connection
+from typing import Any
 
 from . import Page, Refused, parse
 from ._archives import Archives
@@ -30,6 +32,7 @@ NOTHING = b'"title": null, "links": [], "errors": {}'
 BATCH = 1 << 18
 SETTINGS, CALL = given(bad_bytes=1), getattr(ENGINE, "said", None)
 quoted = json.JSONEncoder().encode
+known = functools.lru_cache(64)(quoted)
 
 
 def depth_of(node: Node | None, known: dict[int, int]) -> int:
@@ -111,22 +114,26 @@ class Lines:
         """Reads a page, and adds its line."""
         begun = time.perf_counter()
         status, at, size, it = read(found, most)
-        begin = (f'{{"archive": {quoted(found.archive)}, "record": {found.record}, "address": {quoted(found.address)}, "status": {quoted(status)}, '
+        begin = (f'{{"archive": {known(found.archive)}, "record": {found.record}, "address": {quoted(found.address)}, "status": {known(status)}, '
                  f'"at": {"null" if at is None else at}, ')
         self.text += b'%b%b, "bytes": %d, "seconds": %.6f}\n' % (begin.encode(), it, size, time.perf_counter() - begun)
         self.counts[status.partition(" ")[0]] += 1
         self.size += size
 
 
-def work(link: Connection, most: int) -> None:
-    """What a process does: lines for pages, until there is nobody who asks. What a tree needs is not bounded by its page: attributes may be
-    copied, so memory is bounded for itself."""
+def work(link: Connection, most: int, others: list[Connection]) -> None:
+    """What a process does: lines for pages, until there is nobody who asks. It leaves what it has of its parent's: the other ends, and how that
+    answers signals. What a tree needs is not bounded by its page: attributes may be copied, so memory is bounded for itself."""
+    signal.signal(signal.SIGTERM, signal.SIG_DFL)
+    signal.pthread_sigmask(signal.SIG_UNBLOCK, [signal.SIGTERM])
+    for it in others:
+        it.close()
     hardest = resource.getrlimit(resource.RLIMIT_AS)[1]
     room = 128 * most + (256 << 20)
     resource.setrlimit(resource.RLIMIT_AS, (room if hardest == resource.RLIM_INFINITY else min(room, hardest), hardest))
     try:
         while True:
-            link.send(Lines(link.recv(), most))
+            link.send(Lines(map(Found._make, link.recv()), most))
     except (EOFError, OSError):
         pass
 
@@ -145,23 +152,30 @@ def batches(pages: Iterable[Found]) -> Iterator[list[Found]]:
 
 
 class Worker:
-    """A process, which is started again where it has ended by itself."""
+    """A process, which is started again where it has ended by itself. No Ctrl-C reaches it."""
 
-    def __init__(self, most: int) -> None:
+    def __init__(self, most: int, others: Iterable[Worker] = ()) -> None:
         self._most = most
-        self._start()
+        self._start([it._link for it in others])
 
-    def _start(self) -> None:
-        context = multiprocessing.get_context("spawn")
+    def _start(self, others: list[Connection]) -> None:
+        """Starts it: as a copy, in a fifth of the time, where no other thread is there, nor workers but those with these links."""
+        is_alone, stops = threading.active_count() == 1, [signal.SIGINT, signal.SIGTERM]
+        before = signal.pthread_sigmask(signal.SIG_BLOCK, stops)
+        if not is_alone:
+            resource_tracker.ensure_running()
+            signal.pthread_sigmask(signal.SIG_BLOCK, stops)  # (which the tracker lets through)
+        context: Any = multiprocessing.get_context("fork" if is_alone else "spawn")
         self._link, other = context.Pipe()
-        self._process = context.Process(target=work, args=(other, self._most), daemon=True)
+        self._process = context.Process(target=work, args=(other, self._most, [*others, self._link] if is_alone else []), daemon=True)
         self._process.start()
         other.close()
+        signal.pthread_sigmask(signal.SIG_SETMASK, before)
 
     def lines_of(self, batch: list[Found], is_ending: Callable[[], bool]) -> Iterator[Lines]:
         """The lines of some pages. Where the process ends, each is read by itself."""
         try:
-            self._link.send(batch)
+            self._link.send([tuple(it) for it in batch])
             lines: Lines = self._link.recv()
             yield lines
             return
@@ -169,7 +183,7 @@ class Worker:
             if is_ending():
                 return
         self.close()
-        self._start()
+        self._start([])
         if len(batch) > 1:
             for it in batch:
                 yield from self.lines_of([it], is_ending)
@@ -213,12 +227,12 @@ class Crew:
             self._end()
 
     def _begin(self) -> None:
-        """Starts the processes. No Ctrl-C reaches them and the threads."""
-        resource_tracker.ensure_running()  # (which lets signals through)
-        blocked = signal.pthread_sigmask(signal.SIG_BLOCK, [signal.SIGINT])
+        """Starts the processes, and then the threads, which no Ctrl-C reaches."""
         for _ in range(self._count):
-            self._workers.append(Worker(self._most))
-            self._threads.append(threading.Thread(target=self._serve, args=(self._workers[-1],)))
+            self._workers.append(Worker(self._most, self._workers))
+        blocked = signal.pthread_sigmask(signal.SIG_BLOCK, [signal.SIGINT])
+        for it in self._workers:
+            self._threads.append(threading.Thread(target=self._serve, args=(it,)))
             self._threads[-1].start()
         signal.pthread_sigmask(signal.SIG_SETMASK, blocked)
 

@@ -304,7 +304,7 @@ fn parsed(wants: u32, input: &[u8], options: &Options) -> Result<Page, Error> {
                 errors.shrink_to_fit();
                 html.shrink_to_fit();
                 return Ok(Page {
-                    tree: Tree::of(rows, words, &origins, !options.context.is_empty()),
+                    tree: Tree::of(&rows, words, &origins, !options.context.is_empty()),
                     errors,
                     html: utf8(html),
                 });

@@ -2,7 +2,6 @@
 
 use crate::{raw, written, Error};
 use std::borrow::Cow;
-use std::collections::BTreeMap;
 use std::fmt;
 use std::sync::OnceLock;
 
@@ -85,13 +84,21 @@ fn letters(name: &[u8]) -> usize {
     usize::from(first & 63) << 6 | usize::from(second & 63)
 }
 
-/// The entries of a flat form, by the first two letters of their names.
-fn parts_of(flat: &[u8]) -> BTreeMap<usize, Vec<u8>> {
-    let (mut parts, mut rest) = (BTreeMap::<_, Vec<u8>>::new(), &flat[1..]);
-    while let Some(end) = rest.iter().position(|it| matches!(it, 1 | 2)) {
-        let (entry, after) = rest.split_at(end + 1 + 4 * usize::from(rest[end]));
-        parts.entry(letters(&entry[1..])).or_default().extend_from_slice(entry);
-        rest = after;
+/// The entries of a flat form whose names have the same first two letters stand together: these letters, and the entries.
+fn parts_of(flat: &[u8]) -> Vec<(usize, &[u8])> {
+    let mut parts: Vec<(usize, &[u8])> = Vec::new();
+    let (mut begin, mut at) = (1, 1);
+    while let Some(end) = flat[at..].iter().position(|it| matches!(it, 1 | 2)) {
+        let next = at + end + 1 + 4 * usize::from(flat[at + end]);
+        let letters = letters(&flat[at + 1..]);
+        match parts.last_mut() {
+            Some(part) if part.0 == letters => part.1 = &flat[begin..next],
+            _ => {
+                begin = at;
+                parts.push((letters, &flat[at..next]));
+            }
+        }
+        at = next;
     }
     parts
 }
@@ -99,7 +106,7 @@ fn parts_of(flat: &[u8]) -> BTreeMap<usize, Vec<u8>> {
 /// What an input needs of the Standard's table: none where no `&` begins another name than five, each with a `;`, else the entries that begin as
 /// its names do.
 fn entities_for(input: &[u8]) -> Vec<u8> {
-    static PARTS: OnceLock<BTreeMap<usize, Vec<u8>>> = OnceLock::new();
+    static PARTS: OnceLock<Vec<(usize, &[u8])>> = OnceLock::new();
     let (mut wanted, mut is_core, mut rest) = ([false; 4096], true, input);
     while let Some(at) = raw::find(b'&', rest) {
         rest = &rest[at + 1..];
@@ -110,19 +117,27 @@ fn entities_for(input: &[u8]) -> Vec<u8> {
     if is_core {
         return Vec::new();
     }
-    let parts = PARTS.get_or_init(|| parts_of(Table::standard().flat())).iter();
-    [FLAT].iter().chain(parts.filter(|(&it, _)| wanted[it]).flat_map(|(_, entries)| entries)).copied().collect()
+    let parts = PARTS.get_or_init(|| parts_of(Table::standard().flat()));
+    let mut entries = vec![FLAT];
+    for (_, part) in parts.iter().filter(|it| wanted[it.0]) {
+        entries.extend_from_slice(part);
+    }
+    entries
 }
 
 /// The quirks list that is handed in with an input: where the Standard's does not matter, none.
 pub(crate) fn quirks_for<'a>(list: &'a str, input: &[u8]) -> &'a str {
-    if list == QUIRKS && !quirks_matter(input, list) { "" } else { list }
+    if list == QUIRKS && !quirks_matter(input) { "" } else { list }
 }
 
-/// Whether the quirks list may matter to an input: where it begins, after white space and what is in `<? >`, with a doctype in which an
+/// Whether a text begins so, in upper or lower letters.
+fn begins(text: &[u8], with: &[u8]) -> bool {
+    text.get(..with.len()).is_some_and(|front| front.eq_ignore_ascii_case(with))
+}
+
+/// Whether the Standard's quirks list may matter to an input: where it begins, after white space and what is in `<? >`, with a doctype in which an
 /// identifier of the list stands after a quote, or with what is no doctype, start tag, letter or digit.
-fn quirks_matter(input: &[u8], list: &str) -> bool {
-    let begins = |rest: &[u8], text: &[u8]| rest.get(..text.len()).is_some_and(|front| front.eq_ignore_ascii_case(text));
+fn quirks_matter(input: &[u8]) -> bool {
     let mut rest = input;
     while rest.starts_with(b"<?") || rest.first().is_some_and(u8::is_ascii_whitespace) {
         let end = if rest[0] == b'<' { raw::find(b'>', rest) } else { Some(0) };
@@ -134,8 +149,15 @@ fn quirks_matter(input: &[u8], list: &str) -> bool {
         return rest.first().is_some_and(|it| !it.is_ascii_alphanumeric());
     }
     let doctype = &rest[..raw::find(b'>', rest).unwrap_or(rest.len())];
-    let mut quoted = (1..=doctype.len()).filter(|&at| matches!(doctype[at - 1], b'"' | b'\'')).map(|at| &doctype[at..]);
-    quoted.any(|id| list.lines().filter_map(|line| line.split_once(' ')).any(|(_, it)| begins(id, it.as_bytes())))
+    let mut quoted = (1..=doctype.len()).filter(|&at| matches!(doctype[at - 1], b'"' | b'\''));
+    quoted.any(|at| is_listed(&doctype[at..]))
+}
+
+/// Whether an identifier of the Standard's quirks list begins here: each line has one, after a space.
+fn is_listed(text: &[u8]) -> bool {
+    static LISTED: OnceLock<Vec<&str>> = OnceLock::new();
+    let all = || QUIRKS.lines().filter_map(|line| Some(line.split_once(' ')?.1)).collect();
+    LISTED.get_or_init(all).iter().any(|id| begins(text, id.as_bytes()))
 }
 
 impl PartialEq for Table {

@@ -11,8 +11,7 @@ const NONE: u32 = u32::MAX;
 const WORD_END: u8 = 0xFF;
 const END: u8 = 0xFE;
 
-/// A node in its place in tree order, where its first child is the node after it; the root is at 0. The library's rows have the size
-/// and the alignment of these, so these are made in the memory of the rows.
+/// A node in its place in tree order, where its first child is the node after it; the root is at 0.
 #[derive(Clone, Copy)]
 #[repr(C, packed(4))]
 struct Spot {
@@ -26,11 +25,9 @@ struct Spot {
 
 /// The tree of an input. It owns all that it lends.
 pub struct Tree {
-    root: Spot,
-    /// Those inside the root.
     spots: Vec<Spot>,
     words: Vec<u8>,
-    /// The bytes from which they come, where that was asked for.
+    /// The bytes from which those inside the root come, where that was asked for.
     begins: Vec<Option<u64>>,
 }
 
@@ -45,40 +42,40 @@ impl Tree {
         Ok(parsed(WANT_ORIGINS, input, options)?.tree)
     }
 
-    /// Of the library's rows, whose links are numbers, their words, and how they came to be where that was asked for.
+    /// Of the library's rows, which are in tree order, their words, and how they came to be where that was asked for.
     pub(crate) fn of(
-        rows: Vec<raw::Row>,
+        rows: &[raw::Row],
         words: Vec<u8>,
         origins: &[raw::Origin],
         is_fragment: bool,
     ) -> Tree {
-        let places = places(&rows);
-        let begins = begins(&places, origins);
-        let mut at = 0;
-        let spot = |row: raw::Row| {
-            let start = at;
-            at += 1 + raw::find(END, &words[at..]).expect("a node's words end");
-            Spot {
-                words: start as u64,
-                kind: row.kind,
-                parent: places[row.parent as usize],
-                past: places.get(row.next as usize).copied().unwrap_or(NONE),
-            }
-        };
-        let mut spots: Vec<_> = rows.into_iter().map(spot).collect();
-        spots.shrink_to_fit();
-        end_with_parents(&mut spots);
-        let root = Spot {
+        let (number, kind) = if is_fragment { (1, 2) } else { (0, 0) };
+        let mut spots = Vec::with_capacity(rows.len() + 1);
+        spots.push(Spot {
             words: 0,
-            kind: if is_fragment { 2 } else { 0 },
+            kind,
             parent: NONE,
-            past: spots.len() as u32 + 1,
-        };
+            past: NONE,
+        });
+        // The nodes that the next one may be in, each by its number and its place.
+        let mut open = vec![(number, 0)];
+        let mut at = 0;
+        for (row, place) in rows.iter().zip(1..) {
+            let parent = leave(&mut open, &mut spots, place, |number| number == row.parent);
+            spots.push(Spot {
+                words: at as u64,
+                kind: row.kind,
+                parent,
+                past: NONE,
+            });
+            open.push((row.number, place));
+            at += 1 + raw::find(END, &words[at..]).expect("a node's words end");
+        }
+        leave(&mut open, &mut spots, rows.len() as u32 + 1, |_| false);
         Tree {
-            root,
             spots,
             words,
-            begins,
+            begins: begins(rows, origins),
         }
     }
 
@@ -91,46 +88,49 @@ impl Tree {
     }
 }
 
-/// The places of nodes by their numbers; that of the root is 0.
-fn places(rows: &[raw::Row]) -> Vec<u32> {
-    let count = rows.iter().map(|row| row.number + 1).max().unwrap_or(0);
-    let mut places = vec![0; count as usize];
-    for (row, place) in rows.iter().zip(1..) {
-        places[row.number as usize] = place;
+/// Leaves the open nodes up to one that is wanted, whose place it returns; all inside the others is before this place.
+fn leave(
+    open: &mut Vec<(u32, u32)>,
+    spots: &mut [Spot],
+    past: u32,
+    is_wanted: impl Fn(u32) -> bool,
+) -> u32 {
+    while let Some(&(number, place)) = open.last() {
+        if is_wanted(number) {
+            return place;
+        }
+        spots[place as usize].past = past;
+        open.pop();
     }
-    places
+    NONE
 }
 
 /// The bytes from which nodes come, in tree order. An element that was made again of another has a higher number than that.
-fn begins(places: &[u32], origins: &[raw::Origin]) -> Vec<Option<u64>> {
+fn begins(rows: &[raw::Row], origins: &[raw::Origin]) -> Vec<Option<u64>> {
+    let numbers = || rows.iter().zip(origins).map(|(row, _)| row.number as usize);
+    let mut order = vec![None; numbers().max().map_or(0, |it| it + 1)];
+    for (number, at) in numbers().zip(0..) {
+        order[number] = Some(at);
+    }
     let mut begins = vec![None; origins.len()];
-    let of = |number: u32| (*places.get(number as usize)? as usize).checked_sub(1);
-    for at in (0..places.len() as u32).filter_map(of) {
-        if let Some(origin) = origins.get(at) {
-            begins[at] = match origin.in_source {
-                0 => of(origin.again_of).and_then(|it| begins[it]),
-                _ => Some(origin.at),
-            };
-        }
+    for at in order.iter().flatten().copied() {
+        let origin: &raw::Origin = &origins[at];
+        begins[at] = match origin.in_source {
+            0 => order
+                .get(origin.again_of as usize)
+                .copied()
+                .flatten()
+                .and_then(|it: usize| begins[it]),
+            _ => Some(origin.at),
+        };
     }
     begins
-}
-
-/// What is inside a node without a next one ends where its parent's ends.
-fn end_with_parents(spots: &mut [Spot]) {
-    let end = spots.len() as u32 + 1;
-    for at in 0..spots.len() {
-        if spots[at].past == NONE {
-            let parent = (spots[at].parent as usize).checked_sub(1);
-            spots[at].past = parent.map_or(end, |it| spots[it].past);
-        }
-    }
 }
 
 /// The nodes in tree order, each after how deep it is.
 impl fmt::Debug for Tree {
     fn fmt(&self, f: &mut fmt::Formatter) -> fmt::Result {
-        let mut depths = vec![0; self.spots.len() + 1];
+        let mut depths = vec![0; self.spots.len()];
         let nodes = self.root().descendants().map(|node| {
             let depth = depths[node.spot().parent as usize];
             depths[node.place as usize] = depth + 1;
@@ -199,16 +199,13 @@ impl fmt::Debug for Node<'_> {
 
 impl<'a> Node<'a> {
     fn spot(self) -> Spot {
-        match self.place {
-            0 => self.tree.root,
-            place => self.tree.spots[place as usize - 1],
-        }
+        self.tree.spots[self.place as usize]
     }
 
     /// The node in a place, if there is one.
     fn at(self, place: u32) -> Option<Node<'a>> {
         let tree = self.tree;
-        (place as usize <= tree.spots.len()).then_some(Node { tree, place })
+        ((place as usize) < tree.spots.len()).then_some(Node { tree, place })
     }
 
     pub fn kind(self) -> Kind {
