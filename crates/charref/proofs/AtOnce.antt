@@ -1,5 +1,5 @@
 -- What the bytes after an `&` settle of it.
-use Rattle.charref.proofs.Names.{arith, ◌≡◌, inl, inr, ℕ, zero, suc, ◌+◌, ◌-◌, ◌≤◌, ◌<◌, min, true, false, true≢false, not, nat_eq, List, [], ◌∷◌, ◌++◌, length, take, drop, slice_get, get_or, Option, Some, None, refl, sym, ap, ◌∙◌, subst, length-append, append_assoc, and_parts, and_from, nat_tests, take_more, length-map, is_ascii, starts_with, list_all, some_same, Placed, placed, characters, all, is_alphanumeric, is_empty, Reference, Characters, Search, Alphanumeric, Walk, Entry, Entities, IsTable, Piece, longest, is_key, is_key_name, ends_in_semicolon, code_at, IsAfterKey, IsOpenKey, OpenKey, IsSortedTable, IsRange, IsOver, EntryGoesOn, HasNone, SearchHasRead, key_bytes, IsOpenReference, IsRead, characters_of, errors_of, unknown_of, WalkHasTaken, IsOpenKeyOf, HasWalked, Settles, SettlesNothing}
+use Rattle.charref.proofs.Names.{arith, ◌≡◌, inl, inr, ℕ, zero, suc, ◌+◌, ◌-◌, ◌≤◌, ◌<◌, min, true, false, true≢false, not, nat_eq, List, [], ◌∷◌, ◌++◌, length, take, drop, slice_get, get_or, encode_utf8_all, Option, Some, None, refl, sym, ap, ◌∙◌, subst, length-append, append_assoc, and_parts, and_from, nat_tests, take_more, length-map, is_ascii, starts_with, list_all, some_same, Placed, placed, characters, all, is_alphanumeric, is_empty, Reference, Characters, Search, Alphanumeric, Walk, Entry, Entities, IsTable, Piece, longest, is_key, is_key_name, ends_in_semicolon, code_at, IsAfterKey, IsOpenKey, OpenKey, IsSortedTable, IsRange, IsOver, EntryGoesOn, HasNone, SearchHasRead, key_bytes, IsOpenReference, IsRead, characters_of, errors_of, unknown_of, WalkHasTaken, IsOpenKeyOf, HasWalked, Settles, SettlesNothing}
 use Rattle.std.proofs.Common.{take-take, take-append-drop}
 use Rattle.std.proofs.lemmas.List.{length-take, length-take-le, get_or-take}
 use Rattle.charref.specs.Table.{character_code}
@@ -7,6 +7,7 @@ use Rattle.std.proofs.lemmas.Bool.{cases_lt}
 use Rattle.std.proofs.lemmas.List.Folds.{list_all_at}
 use Rattle.std.specs.Option.{IsNone, MatchOption}
 use Rattle.std.specs.Char.{len_utf8}
+use Rattle.htext.proofs.Parts.{placed-append}
 use Rattle.charref.specs.Walk.{TakesCharacter}
 use Rattle.charref.specs.AtOnce.{HasWhole}
 use Rattle.charref.proofs.Keys.{longest-whole, longest-over, no_longer, begins_itself, begins_later, in_order, whole as whole_key}
@@ -22,19 +23,11 @@ use Rattle.charref.proofs.Telling.{read_named, read_unknown}
 
 -- ONE BYTE MORE
 
-pub record Last (at : ℕ) (bytes : List ℕ) (byte : ℕ) : Type 0 where
-  pub p : Placed
-  pub ch : p.ch ≡ byte
-  pub is : placed at (bytes ++ byte ∷ []) ≡ placed at bytes ++ p ∷ []
+abbrev pub last_at : ℕ → List ℕ → ℕ → Placed
+last_at at bytes k = record { ch = get_or bytes k 0; at = at + length (encode_utf8_all (take k bytes)) }
 
-pub last_placed : (at : ℕ) (bytes : List ℕ) (byte : ℕ) → Last at bytes byte
-last_placed at [] byte = record { p = record { ch = byte; at = at }; ch = refl; is = refl }
-last_placed at (x ∷ xs) byte =
-    let more : Last (at + len_utf8 x) xs byte = last_placed (at + len_utf8 x) xs byte in
-    record { p = more.p; ch = more.ch; is = ap (λ ps. record { ch = x; at = at } ∷ ps) more.is }
-
-pub more_bytes : (bytes : List ℕ) (k : ℕ) → k < length bytes → (at : ℕ) (last : Last at (take k bytes) (get_or bytes k 0)) → placed at (take (k + 1) bytes) ≡ placed at (take k bytes) ++ last.p ∷ []
-more_bytes bytes k within at last = ap (placed at) (take_more bytes k 0 within) ∙ last.is
+pub more_bytes : (bytes : List ℕ) (k : ℕ) → k < length bytes → (at : ℕ) → placed at (take (k + 1) bytes) ≡ placed at (take k bytes) ++ last_at at bytes k ∷ []
+more_bytes bytes k within at = ap (placed at) (take_more bytes k 0 within) ∙ placed-append at (take k bytes) (get_or bytes k 0 ∷ [])
 
 pub walked_nothing : (walk : Walk) (table : Entities) (bytes : List ℕ) → WalkHasTaken walk table false [] → HasWalked walk table bytes 0
 walked_nothing walk table bytes taken = record { few = omega arith; ascii = refl; taken = λ at. taken }
@@ -44,9 +37,7 @@ module _ (table : Entities) (bytes : List ℕ) (k : ℕ) (walk next : Walk) (wit
   takes answer = (text : List Placed) (p : Placed) → WalkHasTaken walk table false text → p.ch ≡ get_or bytes k 0 → TakesCharacter table false (text ++ p ∷ []) answer next
 
   taken_more : (answer : Option Reference) → takes answer → (at : ℕ) → TakesCharacter table false (placed at (take (k + 1) bytes)) answer next
-  taken_more answer take-next at =
-      let last : Last at (take k bytes) (get_or bytes k 0) = last_placed at (take k bytes) (get_or bytes k 0) in
-      subst (λ text. TakesCharacter table false text answer next) (sym (more_bytes bytes k within at last)) (take-next (placed at (take k bytes)) last.p (before.taken at) last.ch)
+  taken_more answer take-next at = subst (λ text. TakesCharacter table false text answer next) (sym (more_bytes bytes k within at)) (take-next (placed at (take k bytes)) (last_at at bytes k) (before.taken at) refl)
 
   pub walked_more : takes None → HasWalked next table bytes (k + 1)
   walked_more take-next = record { few = omega arith; ascii = run_more is_ascii bytes k within before.ascii ascii; taken = taken_more None take-next }
@@ -130,7 +121,7 @@ no_first table (b ∷ bs) byte search sorted first letter read over = record {
 
 -- KEYS THAT END IN A SEMICOLON
 
-characters-placed : (at : ℕ) (bytes : List ℕ) → characters (placed at bytes) ≡ bytes
+pub characters-placed : (at : ℕ) (bytes : List ℕ) → characters (placed at bytes) ≡ bytes
 characters-placed at [] = refl
 characters-placed at (x ∷ xs) = ap (λ cs. x ∷ cs) (characters-placed (at + len_utf8 x) xs)
 
@@ -242,10 +233,9 @@ key_settles_before table bytes count key found is_table has size within ascii re
       few = omega arith;
       ascii = run_more is_ascii bytes count within at-front.ascii ascii;
       read = λ at after. let text : List Placed = placed at (take count bytes) in
-          let last : Last at (take count bytes) (get_or bytes count 0) = last_placed at (take count bytes) (get_or bytes count 0) in
           let goes : EntryGoesOn table (key_bytes text) = subst (EntryGoesOn table) (at-front.is at) front.goes_on in
-          subst (λ t. IsRead table false t after found) (sym (more_bytes bytes count within at last))
-          (reads text last.p (subst (SearchHasRead key.search table) (at-front.is at) front.read) (some_placed at (take count bytes) (let few : length (take count bytes) ≡ count = length-take-le count bytes (omega arith) in let more : 0 < count = at-front.some in omega arith)) (front_of table text is_table goes) last.ch after);
+          subst (λ t. IsRead table false t after found) (sym (more_bytes bytes count within at))
+          (reads text (last_at at bytes count) (subst (SearchHasRead key.search table) (at-front.is at) front.read) (some_placed at (take count bytes) (let few : length (take count bytes) ≡ count = length-take-le count bytes (omega arith) in let more : 0 < count = at-front.some in omega arith)) (front_of table text is_table goes) refl after);
     }
 
 -- no key goes on with a byte that is not marked

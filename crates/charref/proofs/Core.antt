@@ -1,28 +1,12 @@
 -- One key and its characters, looked up.
-use Rattle.charref.proofs.Names.{◌≡◌, ◌⊎◌, inl, inr, ℕ, zero, suc, Bool, true, false, true≢false, cond, nat_eq, nat_lt, bytes_eq, List, [], ◌∷◌, map, length, slice_get, Option, Some, None, refl, sym, ap, ◌∙◌, subst, bytes_eq-Decides, slice_get_within, get_or_from_slice_get, slice_get-get_or, starts_with, some_same, Entry, Entities, IsTable, longest, longer_entry, core, IsReadable}
+use Rattle.charref.proofs.Names.{◌≡◌, ℕ, zero, suc, true, false, true≢false, nat_eq, bytes_eq, List, [], ◌∷◌, map, length, slice_get, Some, refl, sym, ap, ◌∙◌, bytes_eq-Decides, slice_get_within, get_or_from_slice_get, slice_get-get_or, starts_with, some_same, Entry, Entities, IsTable, longest, core, IsReadable}
 use Rattle.std.specs.List.Sorted.{IsStrictlySortedBy}
 use Rattle.std.specs.List.{IsDistinct}
 use Rattle.std.proofs.Common.{Contains}
-use Rattle.std.proofs.lemmas.Bool.{cases_Bool}
 use Rattle.charref.proofs.Keys.{below_each, whole, longest-whole}
+-- under the name by which the crate above cites it
+pub use Rattle.charref.proofs.Keys.{longest_among}
 use Rattle.charref.proofs.Members.{readable_from_parts}
-
--- the longest key is the first entry's, or that of the others
-first_or_later : (x : Entry) (b : Bool) (o : Option Entry) (e : Entry) → cond b (longer_entry x o) o ≡ Some e → ((b ≡ true) × (x ≡ e)) ⊎ (o ≡ Some e)
-first_or_later x false o e h = inr h
-first_or_later x true None e h = inl (refl, some_same x e h)
-first_or_later x true (Some f) e h = elim (cases_Bool (nat_lt (length f.key) (length x.key))) [
-  | inl test ↦ inl (refl, some_same x e (sym (ap (λ b. cond b (Some x) (Some f)) test) ∙ h))
-  | inr test ↦ inr (sym (ap (λ b. cond b (Some x) (Some f)) test) ∙ h)
-]
-
--- the longest key is a key of the table that the text begins with
-pub longest_among : (table : Entities) (text : List ℕ) (e : Entry) → longest table text ≡ Some e → (k : ℕ) × (slice_get table k ≡ Some e) × (starts_with nat_eq text e.key ≡ true)
-longest_among [] text e h = absurd (cc)
-longest_among (x ∷ xs) text e h = elim (first_or_later x (starts_with nat_eq text x.key) (longest xs text) e h) [
-  | inl here ↦ (zero, ap Some here.1, subst (λ (y : Entry). starts_with nat_eq text y.key ≡ true) here.1 here.0)
-  | inr later ↦ let found = longest_among xs text e later in (suc found.0, found.1, found.2)
-]
 
 -- a key is once in a table
 same_key : (a b : List ℕ) → a ≡ b → bytes_eq a b ≡ false → ⊥

@@ -1,5 +1,5 @@
 -- A name with one character more.
-use Rattle.charref.proofs.Names.{arith, ◌≡◌, ℕ, ◌+◌, ◌≤◌, ◌<◌, Bool, true, false, true≢false, not, ◌&&◌, ◌||◌, ◌==◌, cond, nat_eq, bytes_eq, codes, List, [], ◌∷◌, ◌++◌, length, slice_get, Some, refl, sym, ap, ◌∙◌, subst, length-append, append-nil, map-append, length-map, bytes_eq-Decides, and_parts, and_from, nat_tests, starts_with, Placed, characters, all, is_empty, is_alphanumeric, is_equals, Alphanumeric, Semicolon, Equals, Other, Search, Entry, Entities, IsTable, longest, is_key, is_key_name, is_empty_list, ends_in_semicolon, is_kept_as_text, best_entry, is_whole, IsOver, EntryGoesOn, HasNone, SearchHasRead, key_bytes, IsSettled, last_of, is_letter_or_digit}
+use Rattle.charref.proofs.Names.{arith, ◌≡◌, ℕ, ◌+◌, ◌≤◌, ◌<◌, Bool, true, false, true≢false, not, ◌&&◌, ◌||◌, ◌==◌, cond, nat_eq, bytes_eq, codes, List, [], ◌∷◌, ◌++◌, length, slice_get, Some, refl, sym, ap, ◌∙◌, subst, length-append, append-nil, map-append, length-map, bytes_eq-Decides, and_parts, and_from, nat_tests, starts_with, Placed, characters, all, is_empty, is_alphanumeric, is_equals, Alphanumeric, Semicolon, Equals, Other, Search, Entry, Entities, IsTable, longest, is_key, is_key_name, is_empty_list, ends_in_semicolon, is_kept_as_text, best_entry, has_read_key, IsOver, EntryGoesOn, HasNone, SearchHasRead, key_bytes, IsSettled, last_of, is_letter_or_digit, IsHeldReference, in_name, Name}
 use Rattle.std.proofs.Math.Bool.{and-false}
 use Rattle.charref.specs.Table.{is_as_long}
 use Rattle.charref.proofs.Keys.{no_longer, longest-over, longest-more, begins_itself, whole}
@@ -98,6 +98,13 @@ key_front (x ∷ xs) text h p less =
 pub front_of : (table : Entities) (text : List Placed) → IsTable table → EntryGoesOn table (key_bytes text) → all is_alphanumeric text ≡ true
 front_of table text is_table goes = key_front goes.entry.key text (is_key_of table goes.place goes.entry is_table goes.stands) goes.opens goes.is_longer
 
+-- a name that goes on is held
+pub held_longer : (table : Entities) (in_value : Bool) (next : Search) (text : List Placed) (p : Placed) (ch : ℕ) → IsTable table → p.ch ≡ ch → SearchHasRead next table (key_bytes text ++ ch ∷ [])
+    → ((bytes : List ℕ) → SearchHasRead next table bytes → EntryGoesOn table bytes) → IsHeldReference table in_value (Name next) (text ++ p ∷ [])
+held_longer table in_value next text p ch is_table is read goes =
+    let now : SearchHasRead next table (key_bytes (text ++ p ∷ [])) = subst (SearchHasRead next table) (ap (λ x. key_bytes text ++ x ∷ []) (sym is) ∙ sym (key_bytes-more text p)) read in
+    in_name next (text ++ p ∷ []) now (front_of table (text ++ p ∷ []) is_table (goes _ now)) (λ outside some. goes _ now)
+
 -- a name that doesn't end in a letter or digit ends in `;`
 name_last : (c : ℕ) (text : List Placed) (p : Placed) → is_key_name (characters (text ++ p ∷ [])) ≡ true → is_alphanumeric p.ch ≡ false → ends_in_semicolon (c ∷ characters (text ++ p ∷ [])) ≡ true
 name_last c [] p h other = absurd (true≢false (sym (and_parts (is_alphanumeric p.ch) _ h).0 ∙ other))
@@ -131,11 +138,11 @@ module _ (table : Entities) (in_value : Bool) (text after : List Placed) (p : Pl
 
 -- or keys do, but none goes on, and no key waits
 module _ (table : Entities) (in_value : Bool) (text after : List Placed) (p : Placed) (is_table : IsTable table) (next : Search) (read : SearchHasRead next table (key_bytes text ++ p.ch ∷ [])) (over : IsOver table (key_bytes text ++ p.ch ∷ []))
-    (waits : (in_value && is_alphanumeric p.ch && is_whole table next) ≡ false) where
+    (waits : (in_value && is_alphanumeric p.ch && has_read_key table next) ≡ false) where
   pub best_after : best_entry table next.best ≡ longest table (key_bytes (text ++ p ∷ []))
   best_after = read.best ∙ ap (longest table) (sym (key_bytes-more text p))
 
-  as_long : (e : Entry) → longest table (key_bytes (text ++ p ∷ [])) ≡ Some e → length e.key ≡ length (text ++ p ∷ []) + 1 → is_whole table next ≡ true
+  as_long : (e : Entry) → longest table (key_bytes (text ++ p ∷ [])) ≡ Some e → length e.key ≡ length (text ++ p ∷ []) + 1 → has_read_key table next ≡ true
   as_long e found size =
       let count : length (characters (text ++ p ∷ [])) ≡ length (text ++ p ∷ []) = length-map (text ++ p ∷ []) (λ q. q.ch) in
       let same : length (key_bytes (text ++ p ∷ [])) ≡ length (key_bytes text ++ p.ch ∷ []) = ap length (key_bytes-more text p) in
@@ -157,7 +164,7 @@ module _ (table : Entities) (in_value : Bool) (text after : List Placed) (p : Pl
     not_kept = λ e found size. by in_value (is_alphanumeric p.ch) refl refl e found size (as_long e found size);
   }
     where
-      by : (b a : Bool) → in_value ≡ b → is_alphanumeric p.ch ≡ a → (e : Entry) → longest table (key_bytes (text ++ p ∷ [])) ≡ Some e → length e.key ≡ length (text ++ p ∷ []) + 1 → is_whole table next ≡ true → is_kept_as_text in_value e.key after ≡ false
+      by : (b a : Bool) → in_value ≡ b → is_alphanumeric p.ch ≡ a → (e : Entry) → longest table (key_bytes (text ++ p ∷ [])) ≡ Some e → length e.key ≡ length (text ++ p ∷ []) + 1 → has_read_key table next ≡ true → is_kept_as_text in_value e.key after ≡ false
       by false a is letter e found size long = rw is refl
       by true true is letter e found size long = absurd (true≢false (sym (and_from _ _ (and_from _ _ is letter) long) ∙ waits))
       by true false is letter e found size long = rw (is, semicolon_of e found size letter) refl

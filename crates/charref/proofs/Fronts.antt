@@ -121,7 +121,3 @@ short_closed_key (b ∷ bs) end long first some few run close =
     let here : suc end ≡ end + 1 = omega arith in
     let there : get_or bs end 0 ≡ 59 = ap (λ n. get_or (b ∷ bs) n 0) here ∙ close in
     subst (λ n. is_key (take n (b ∷ bs)) ≡ true) next (key_of_name b bs (end + 1) first (is_closed_name bs end some (omega arith) (run_within end bs few (omega arith) run) there))
-
-pub no_key : (name : List ℕ) → HasNoCounted is_key_name name → HasNoCounted is_key (38 ∷ name)
-no_key name none [] rest count is counts same = true≢false (sym is)
-no_key name none (c ∷ cs) rest count is counts same = none cs rest count (and_parts _ _ is).1 counts (let tail : name ≡ cs ++ count ∷ rest = cc in tail)

@@ -1,9 +1,11 @@
 -- Keys that begin with some bytes, in a list whose keys are in order.
-use Rattle.charref.proofs.Names.{arith, ◌≡◌, ℕ, zero, suc, ◌+◌, ◌≤◌, ◌<◌, ◌⊎◌, inl, inr, Bool, true, false, true≢false, ◌&&◌, nat_eq, nat_lt, cond, List, [], ◌∷◌, ◌++◌, map, length, slice_get, Option, Some, None, Less, Equal, Greater, refl, sym, ap, ◌∙◌, subst, length-append, and_parts, and_from, nat_tests, slice_cmp, nat_cmp, starts_with, AllByRecursion, Entry, Entities, longest, longer_entry, code_at, IsOver}
+use Rattle.charref.proofs.Names.{arith, ◌≡◌, ℕ, zero, suc, ◌+◌, ◌≤◌, ◌<◌, ◌⊎◌, inl, inr, Bool, true, false, true≢false, ◌&&◌, nat_eq, nat_lt, cond, List, [], ◌∷◌, ◌++◌, map, length, slice_get, Option, Some, None, Less, Equal, Greater, refl, sym, ap, ◌∙◌, subst, length-append, and_parts, and_from, nat_tests, slice_cmp, nat_cmp, starts_with, AllByRecursion, some_same, Entry, Entities, longest, longer_entry, code_at, IsOver}
 use Rattle.std.proofs.Math.Bool.{and_assoc}
-use Rattle.std.proofs.lemmas.Bool.{cases_lt}
+use Rattle.std.proofs.lemmas.Bool.{cases_lt, cases_Bool}
+use Rattle.std.proofs.lemmas.List.{length-take, take_all}
 use Rattle.std.specs.List.Sorted.{IsStrictlySortedBy}
-use Rattle.std.specs.Cmp.{nat_cmp_is}
+use Rattle.std.specs.Cmp.{nat_cmp_is, both_ways}
+use Rattle.charref.proofs.Naming.{key_of}
 use Rattle.std.specs.Ordering.{ordering_then}
 
 nat_same : (x y : ℕ) → nat_eq x y ≡ true → x ≡ y
@@ -94,19 +96,11 @@ begins_itself (x ∷ xs) = and_from _ _ (grind (arith, nat_tests)) (begins_itsel
 
 -- a key that the text begins with, and that is as long, is the text
 pub whole : (text key : List ℕ) → starts_with nat_eq text key ≡ true → length key ≡ length text → key ≡ text
-whole [] [] p h = refl
-whole (x ∷ xs) [] p h = absurd (omega arith)
-whole [] (c ∷ cs) p h = absurd (omega arith)
-whole (x ∷ xs) (c ∷ cs) p h =
-    let first : c ≡ x = nat_same c x (and_parts _ _ p).0 in
-    let others : cs ≡ xs = whole xs cs (and_parts _ _ p).1 (omega arith) in
-    cc
+whole text key p h = key_of text key p ∙ take_all (length key) text (omega arith)
 
 -- a text begins with no longer key
 pub no_longer : (text key : List ℕ) → starts_with nat_eq text key ≡ true → length key ≤ length text
-no_longer text [] p = omega arith
-no_longer [] (c ∷ cs) p = absurd (true≢false (sym p))
-no_longer (x ∷ xs) (c ∷ cs) p = let h : length cs ≤ length xs = no_longer xs cs (and_parts _ _ p).1 in omega arith
+no_longer text key p = omega (arith, ap length (key_of text key p), length-take (length key) text)
 
 -- what a text begins with, it begins with whatever follows
 pub begins_on : (text rest key : List ℕ) → starts_with nat_eq text key ≡ true → starts_with nat_eq (text ++ rest) key ≡ true
@@ -122,95 +116,87 @@ begins_or_goes_on [] rest (c ∷ cs) p = inr (refl, omega arith)
 begins_or_goes_on (x ∷ xs) rest (c ∷ cs) p =
     elim (begins_or_goes_on xs rest cs (and_parts _ _ p).1) [ inl q ↦ inl (and_from _ _ (and_parts _ _ p).0 q) | inr q ↦ inr (and_from _ _ (let e : c ≡ x = nat_same c x (and_parts _ _ p).0 in grind (arith, nat_tests)) q.0, omega (arith, q.1)) ]
 
-over_tail : (x : Entry) (xs : Entities) (text : List ℕ) → IsOver (x ∷ xs) text → IsOver xs text
-over_tail x xs text over = record { no_more = λ k e h p. over.no_more (suc k) e h p }
+-- where no key of the table tells two texts apart
+longest-same : (table : Entities) (a b : List ℕ) → ((k : ℕ) (e : Entry) → slice_get table k ≡ Some e → starts_with nat_eq a e.key ≡ starts_with nat_eq b e.key) → longest table a ≡ longest table b
+longest-same [] a b same = refl
+longest-same (x ∷ xs) a b same =
+    let test : starts_with nat_eq a x.key ≡ starts_with nat_eq b x.key = same zero x refl in
+    let others : longest xs a ≡ longest xs b = longest-same xs a b (λ k e h. same (suc k) e h) in
+    rw (test, others)
 
-same_test : (e : Entry) (text rest : List ℕ) → (starts_with nat_eq e.key text ≡ true → length e.key ≤ length text) → starts_with nat_eq (text ++ rest) e.key ≡ starts_with nat_eq text e.key
-same_test e text rest over = by (starts_with nat_eq text e.key) (starts_with nat_eq (text ++ rest) e.key) refl refl
-  where
-    by : (b d : Bool) → starts_with nat_eq text e.key ≡ b → starts_with nat_eq (text ++ rest) e.key ≡ d → d ≡ b
-    by true true p q = refl
-    by false false p q = refl
-    by true false p q = absurd (true≢false (sym (begins_on text rest e.key p) ∙ q))
-    by false true p q = elim (begins_or_goes_on text rest e.key q) [ inl h ↦ absurd (true≢false (sym h ∙ p)) | inr h ↦ absurd (let le : length e.key ≤ length text = over h.0 in omega (arith, h.1)) ]
+-- as what follows a text, where no key with which both begin goes on after it
+same_test : (text rest key : List ℕ) → (starts_with nat_eq key text ≡ true → length text < length key → starts_with nat_eq (text ++ rest) key ≡ true → ⊥) → starts_with nat_eq (text ++ rest) key ≡ starts_with nat_eq text key
+same_test text rest key none = both_ways _ _ (λ q. elim (begins_or_goes_on text rest key q) [ inl h ↦ h | inr h ↦ absurd (none h.0 h.1 q) ]) (begins_on text rest key)
 
 -- then the longest key is that of the text, whatever follows
 pub longest-over : (table : Entities) (text rest : List ℕ) → IsOver table text → longest table (text ++ rest) ≡ longest table text
-longest-over [] text rest over = refl
-longest-over (x ∷ xs) text rest over =
-    let test : starts_with nat_eq (text ++ rest) x.key ≡ starts_with nat_eq text x.key = same_test x text rest (over.no_more zero x refl) in
-    let others : longest xs (text ++ rest) ≡ longest xs text = longest-over xs text rest (over_tail x xs text over) in
-    rw (test, others)
+longest-over table text rest over = longest-same table (text ++ rest) text (λ k e h. same_test text rest e.key (λ p longer q. let le : length e.key ≤ length text = over.no_more k e h p in omega (arith, le, longer)))
+
+-- and where no key is the text with one byte more, the longest key stays
+pub longest-more : (table : Entities) (bytes : List ℕ) (byte : ℕ) → ((k : ℕ) (e : Entry) → slice_get table k ≡ Some e → e.key ≡ bytes ++ byte ∷ [] → ⊥)
+    → longest table (bytes ++ byte ∷ []) ≡ longest table bytes
+longest-more table bytes byte none = longest-same table (bytes ++ byte ∷ []) bytes (λ k e h. same_test bytes (byte ∷ []) e.key (λ p longer q. none k e h (whole (bytes ++ byte ∷ []) e.key q (
+    let most : length e.key ≤ length (bytes ++ byte ∷ []) = no_longer (bytes ++ byte ∷ []) e.key q in
+    omega (arith, most, longer, length-append bytes (byte ∷ []))))))
+
+-- where no key begins a text
+pub longest-none : (table : Entities) (text : List ℕ) → ((k : ℕ) (e : Entry) → slice_get table k ≡ Some e → starts_with nat_eq text e.key ≡ false) → longest table text ≡ None
+longest-none [] text none = refl
+longest-none (x ∷ xs) text none = let test : starts_with nat_eq text x.key ≡ false = none zero x refl in rw test (longest-none xs text (λ k e h. none (suc k) e h))
+
+-- the longest key is a key of the table that the text begins with
+first_or_later : (x : Entry) (b : Bool) (o : Option Entry) (e : Entry) → cond b (longer_entry x o) o ≡ Some e → ((b ≡ true) × (x ≡ e)) ⊎ (o ≡ Some e)
+first_or_later x false o e h = inr h
+first_or_later x true None e h = inl (refl, some_same x e h)
+first_or_later x true (Some f) e h = elim (cases_Bool (nat_lt (length f.key) (length x.key))) [
+  | inl test ↦ inl (refl, some_same x e (sym (ap (λ b. cond b (Some x) (Some f)) test) ∙ h))
+  | inr test ↦ inr (sym (ap (λ b. cond b (Some x) (Some f)) test) ∙ h)
+]
+
+pub longest_among : (table : Entities) (text : List ℕ) (e : Entry) → longest table text ≡ Some e → (k : ℕ) × (slice_get table k ≡ Some e) × (starts_with nat_eq text e.key ≡ true)
+longest_among [] text e h = absurd (cc)
+longest_among (x ∷ xs) text e h = elim (first_or_later x (starts_with nat_eq text x.key) (longest xs text) e h) [
+  | inl here ↦ (zero, ap Some here.1, subst (λ (y : Entry). starts_with nat_eq text y.key ≡ true) here.1 here.0)
+  | inr later ↦ let found = longest_among xs text e later in (suc found.0, found.1, found.2)
+]
+
+-- and no shorter than another one
+abbrev NoShorter : Option Entry → ℕ → Type 0
+NoShorter found n = (e : Entry) × (found ≡ Some e) × (n ≤ length e.key)
+
+longer_of : (x f : Entry) (n : ℕ) → (n ≤ length x.key) ⊎ (n ≤ length f.key) → NoShorter (longer_entry x (Some f)) n
+longer_of x f n h = by (nat_lt (length f.key) (length x.key)) refl h
+  where
+    by : (b : Bool) → nat_lt (length f.key) (length x.key) ≡ b → (n ≤ length x.key) ⊎ (n ≤ length f.key) → NoShorter (cond b (Some x) (Some f)) n
+    by true is h = (x, refl, elim h [ inl most ↦ most | inr most ↦ grind (arith, is, most, nat_tests) ])
+    by false is h = (f, refl, elim h [ inl most ↦ grind (arith, is, most, nat_tests) | inr most ↦ most ])
+
+first_longer : (x : Entry) (o : Option Entry) → NoShorter (longer_entry x o) (length x.key)
+first_longer x None = (x, refl, omega arith)
+first_longer x (Some f) = longer_of x f (length x.key) (inl (omega arith))
+
+longest_longer : (table : Entities) (text : List ℕ) (k : ℕ) (e : Entry) → slice_get table k ≡ Some e → starts_with nat_eq text e.key ≡ true → NoShorter (longest table text) (length e.key)
+longest_longer [] text k e h p = absurd (cc)
+longest_longer (x ∷ xs) text zero e h p =
+    let same : x ≡ e = cc in
+    let test : starts_with nat_eq text x.key ≡ true = ap (λ (y : Entry). starts_with nat_eq text y.key) same ∙ p in
+    subst (λ (y : Entry). NoShorter (cond (starts_with nat_eq text x.key) (longer_entry x (longest xs text)) (longest xs text)) (length y.key)) same (rw test (first_longer x (longest xs text)))
+longest_longer (x ∷ xs) text (suc k) e h p =
+    let (f, found, most) = longest_longer xs text k e h p in
+    rw found (by f most (starts_with nat_eq text x.key))
+  where
+    by : (f : Entry) → length e.key ≤ length f.key → (b : Bool) → NoShorter (cond b (longer_entry x (Some f)) (Some f)) (length e.key)
+    by f most true = longer_of x f (length e.key) (inr most)
+    by f most false = (f, refl, most)
 
 -- a key that is the text at one place only is the longest of it
 pub record IsOnly (table : Entities) (text : List ℕ) (k : ℕ) : Type 0 where
   pub here : (j : ℕ) (f : Entry) → slice_get table j ≡ Some f → f.key ≡ text → j ≡ k
 
-shorter : Option Entry → ℕ → Type 0
-shorter None n = Unit {0}
-shorter (Some e) n = length e.key < n
-
-longer_shorter : (x : Entry) (found : Option Entry) (n : ℕ) → length x.key < n → shorter found n → shorter (longer_entry x found) n
-unfolding shorter
-longer_shorter x None n h g = h
-longer_shorter x (Some e) n h g = by (nat_lt (length e.key) (length x.key))
-  where
-    by : (b : Bool) → shorter (cond b (Some x) (Some e)) n
-    by true = h
-    by false = g
-
-longest-shorter : (table : Entities) (text : List ℕ) → ((k : ℕ) (e : Entry) → slice_get table k ≡ Some e → e.key ≡ text → ⊥) → shorter (longest table text) (length text)
-unfolding shorter
-longest-shorter [] text none = tt
-longest-shorter (x ∷ xs) text none = by (starts_with nat_eq text x.key) refl (longest-shorter xs text (λ k e h. none (suc k) e h))
-  where
-    by : (b : Bool) → starts_with nat_eq text x.key ≡ b → shorter (longest xs text) (length text) → shorter (cond b (longer_entry x (longest xs text)) (longest xs text)) (length text)
-    by false p others = others
-    by true p others =
-        let le : length x.key ≤ length text = no_longer text x.key p in
-        let ne : length x.key ≡ length text → ⊥ = λ (e : length x.key ≡ length text). none zero x refl (whole text x.key p e) in
-        longer_shorter x (longest xs text) (length text) (omega (arith, ne)) others
-
-longer_wins : (x : Entry) (found : Option Entry) → shorter found (length x.key) → longer_entry x found ≡ Some x
-unfolding shorter
-longer_wins x None h = refl
-longer_wins x (Some e) h = let test : nat_lt (length e.key) (length x.key) ≡ true = grind (arith, nat_tests) in rw test
-
 pub longest-whole : (table : Entities) (text : List ℕ) (k : ℕ) (e : Entry) → IsOnly table text k → slice_get table k ≡ Some e → e.key ≡ text → longest table text ≡ Some e
-longest-whole [] text k e only h is = absurd (cc)
-longest-whole (x ∷ xs) text zero e only h is =
-    let same : x ≡ e = cc in
-    let key-is : text ≡ x.key = sym is ∙ ap (λ (y : Entry). y.key) (sym same) in
-    let begins : starts_with nat_eq text x.key ≡ true = subst (λ t. starts_with nat_eq text t ≡ true) key-is (begins_itself text) in
-    let others : shorter (longest xs text) (length text) = longest-shorter xs text (λ j f g fs. absurd (let z : suc j ≡ 0 = only.here (suc j) f g fs in omega arith)) in
-    let wins : longer_entry x (longest xs text) ≡ Some x = longer_wins x (longest xs text) (subst (λ t. shorter (longest xs text) (length t)) key-is others) in
-    rw (begins, wins) (ap Some same)
-longest-whole (x ∷ xs) text (suc k) e only h is =
-    let found : longest xs text ≡ Some e = longest-whole xs text k e (record { here = λ j f g fs. let z : suc j ≡ suc k = only.here (suc j) f g fs in omega arith }) h is in
-    rw found (by (starts_with nat_eq text x.key) refl)
-  where
-    by : (b : Bool) → starts_with nat_eq text x.key ≡ b → cond b (longer_entry x (Some e)) (Some e) ≡ Some e
-    by false p = refl
-    by true p =
-        let le : length x.key ≤ length text = no_longer text x.key p in
-        let same : length e.key ≡ length text = ap length is in
-        let test : nat_lt (length e.key) (length x.key) ≡ false = grind (arith, nat_tests) in
-        rw test
-
--- where no key is the text with one byte more, the longest key stays
-pub longest-more : (table : Entities) (bytes : List ℕ) (byte : ℕ) → ((k : ℕ) (e : Entry) → slice_get table k ≡ Some e → e.key ≡ bytes ++ byte ∷ [] → ⊥)
-    → longest table (bytes ++ byte ∷ []) ≡ longest table bytes
-longest-more [] bytes byte none = refl
-longest-more (x ∷ xs) bytes byte none =
-    let others : longest xs (bytes ++ byte ∷ []) ≡ longest xs bytes = longest-more xs bytes byte (λ k e h. none (suc k) e h) in
-    let test : starts_with nat_eq (bytes ++ byte ∷ []) x.key ≡ starts_with nat_eq bytes x.key = by (starts_with nat_eq bytes x.key) (starts_with nat_eq (bytes ++ byte ∷ []) x.key) refl refl in
-    rw (test, others)
-  where
-    by : (b d : Bool) → starts_with nat_eq bytes x.key ≡ b → starts_with nat_eq (bytes ++ byte ∷ []) x.key ≡ d → d ≡ b
-    by true true p q = refl
-    by false false p q = refl
-    by true false p q = absurd (true≢false (sym (begins_on bytes (byte ∷ []) x.key p) ∙ q))
-    by false true p q = elim (begins_or_goes_on bytes (byte ∷ []) x.key q) [
-      | inl h ↦ absurd (true≢false (sym h ∙ p))
-      | inr h ↦ absurd (none zero x refl (whole (bytes ++ byte ∷ []) x.key q (let le : length x.key ≤ length (bytes ++ byte ∷ []) = no_longer (bytes ++ byte ∷ []) x.key q in let more : length (bytes ++ byte ∷ []) ≡ length bytes + 1 = length-append bytes (byte ∷ []) in omega (arith, h.1))))
-    ]
+longest-whole table text k e only h is =
+    let (f, found, most) = longest_longer table text k e h (subst (λ t. starts_with nat_eq text t ≡ true) (sym is) (begins_itself text)) in
+    let (j, at, begins) = longest_among table text f found in
+    let least : length f.key ≤ length text = no_longer text f.key begins in
+    let place : j ≡ k = only.here j f at (whole text f.key begins (omega (arith, most, least, ap length is))) in
+    found ∙ sym at ∙ ap (slice_get table) place ∙ h

@@ -9,7 +9,7 @@ pub use Rattle.charref.specs.Open.{IsOpenReference}
 pub use Rattle.charref.specs.Pieces.{IsRead, number_reference, characters_of, errors_of, unknown_of}
 pub use Rattle.charref.specs.Reading.{is_character, codepoints, entry_of_json, entities_of, IsRefusedWith}
 pub use Rattle.charref.specs.Reference.{Entry, Entities, is_hex_digit, digit_value, IsTable, longest, is_key, is_key_name, is_empty_list, ends_in_semicolon, is_kept_as_text, named, named_piece, longer_entry, IsReference, kept, unknown, begins_number, is_semicolon_if_any, decimal, hexadecimal, no_digits, alone, Piece, core}
-pub use Rattle.charref.specs.Table.{code_at, IsSortedTable, IsRange, IsRising, IsStart, IsIndex, SearchHasRead, best_entry, is_whole, IsOver, EntryGoesOn, HasNone, IsParted, entry, entries, numbers_in, characters_in, key_at, IsAfterKey, IsOpenKey, AreEnds, AreMarked}
+pub use Rattle.charref.specs.Table.{code_at, IsSortedTable, IsRange, IsRising, IsStart, IsIndex, SearchHasRead, best_entry, has_read_key, IsOver, EntryGoesOn, HasNone, IsParted, entry, entries, numbers_in, characters_in, key_at, IsAfterKey, IsOpenKey, AreEnds, AreMarked}
 pub use Rattle.charref.specs.Walk.{WalkHasTaken, NextIs}
 pub use Rattle.charref.specs.declared.entries.Entity.{Entity}
 pub use Rattle.charref.specs.declared.key.TheConstants.{ALPHANUMERICS}

@@ -1,5 +1,5 @@
 -- A name that has been read: its key, or none.
-use Rattle.charref.proofs.Names.{arith, ◌≡◌, ℕ, zero, suc, ◌-◌, ◌<◌, true, true≢false, nat_eq, List, [], ◌∷◌, ◌++◌, length, take, drop, slice_get, get_or, Some, refl, sym, ap, ◌∙◌, subst, take-append-drop, and_parts, nat_tests, starts_with, list_all, Placed, characters, begins, all, past, is_alphanumeric, Entry, Entities, IsTable, is_key, ends_in_semicolon}
+use Rattle.charref.proofs.Names.{arith, ◌≡◌, ℕ, zero, suc, ◌-◌, ◌≤◌, ◌<◌, true, false, true≢false, ◌==◌, nat_eq, List, [], ◌∷◌, ◌++◌, length, take, drop, slice_get, get_or, Some, refl, sym, ap, ◌∙◌, subst, take-append-drop, and_parts, nat_tests, starts_with, list_all, Placed, characters, begins, all, past, is_alphanumeric, Entry, Entities, IsTable, is_key, ends_in_semicolon}
 use Rattle.std.proofs.Math.Seq.{drop-append_seam}
 -- under the name by which the crates above cite it
 pub use Rattle.names.proofs.Words.{all-append}
@@ -64,3 +64,11 @@ key_opens (c ∷ []) h = absurd (true≢false (sym (and_parts _ _ h).1))
 key_opens (c ∷ d ∷ cs) h =
     let amp : c ≡ 38 = (let t : nat_eq c 38 ≡ true = (and_parts _ _ h).0 in grind (arith, nat_tests)) in
     record { first = d; others = cs; is = ap (λ x. x ∷ d ∷ cs) amp; alphanumeric = (and_parts (is_alphanumeric d) _ (and_parts _ _ h).1).0 }
+
+pub key_size : (key : List ℕ) → is_key key ≡ true → 2 ≤ length key
+key_size [] is = absurd (true≢false (sym is))
+key_size (c ∷ []) is = absurd (true≢false (sym (and_parts (c == 38) false is).1))
+key_size (c ∷ d ∷ cs) is = omega arith
+
+pub some_key : (table : Entities) (k : ℕ) (e : Entry) → IsTable table → slice_get table k ≡ Some e → 2 ≤ length e.key
+some_key table k e is_table h = key_size e.key (is_key_of table k e is_table h)

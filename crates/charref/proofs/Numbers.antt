@@ -1,14 +1,12 @@
 -- Numbers, digit by digit.
-use Rattle.charref.proofs.Names.{arith, ◌≡◌, ◌⊎◌, inl, inr, ℕ, ◌+◌, ◌-◌, ◌*◌, ◌≤◌, ◌<◌, min, Bool, true, false, not, ◌||◌, ◌==◌, nat_eq, nat_lt, List, [], ◌∷◌, ◌++◌, map, length, take, drop, Some, None, refl, sym, ap, ◌∙◌, append_assoc, length-append, append-nil, and_parts, and_from, nat_tests, to_ascii_lowercase, all-one, begins-append, Placed, AbsenceOfDigitsInNumericCharacterReference, MissingSemicolonAfterCharacterReference, begins, stops, all, is_empty, is_digit, is_alphanumeric, error, error_if, Base, Decimal, Hexadecimal, One, NumberSign, HexadecimalSign, Number, Entities, is_hex_digit, digit_value, begins_number, is_semicolon_if_any, IsReference, decimal, hexadecimal, no_digits, alone, is_digit_of, radix, IsSign, number_sign, IsHeldReference, after_sign, after_x, in_number, IsRead, errors_of, number_reference}
+use Rattle.charref.proofs.Names.{arith, ◌≡◌, ◌⊎◌, inl, inr, ℕ, ◌+◌, ◌-◌, ◌*◌, ◌≤◌, ◌<◌, min, Bool, true, false, not, ◌||◌, ◌==◌, nat_eq, nat_lt, List, [], ◌∷◌, ◌++◌, map, length, take, drop, Some, None, refl, sym, ap, ◌∙◌, subst, append_assoc, length-append, append-nil, and_parts, and_from, nat_tests, to_ascii_lowercase, all-one, begins-append, Placed, AbsenceOfDigitsInNumericCharacterReference, MissingSemicolonAfterCharacterReference, begins, stops, all, is_empty, is_digit, is_alphanumeric, error, error_if, Base, Decimal, Hexadecimal, One, NumberSign, HexadecimalSign, Number, Entities, is_hex_digit, digit_value, begins_number, is_semicolon_if_any, IsReference, decimal, hexadecimal, no_digits, alone, is_digit_of, radix, IsSign, number_sign, IsHeldReference, after_sign, after_x, in_number, IsRead, errors_of, number_reference}
 use Rattle.std.proofs.Common.{option_to_list}
 use Rattle.std.proofs.Math.Bool.{and-false}
 use Rattle.std.proofs.Math.Nat.{zero-mul}
-use Rattle.std.proofs.Math.Seq.{take-append_seam}
 use Rattle.std.proofs.lemmas.Bool.{cases_lt}
-use Rattle.std.proofs.lemmas.List.{drop_all, take_all}
+use Rattle.std.proofs.lemmas.List.{drop_at, take_at}
 use Rattle.charref.specs.Reference.{number_from, numbered, number_fault}
 use Rattle.charref.specs.Held.{small_x, capital_x}
-use Rattle.charref.proofs.Naming.{drop-seam}
 use Rattle.charref.proofs.Telling.{no_run, read_text}
 
 -- SIGNS
@@ -24,34 +22,31 @@ begins_sign : (q : Placed) (rest : List Placed) → q.ch ≡ 35 → begins (λ c
 begins_sign q rest is = grind (arith, nat_tests)
 
 -- nothing but `#`, or `#x`, and then no digit
+no_number : (table : Entities) (in_value : Bool) (q : Placed) (others after : List Placed) → q.ch ≡ 35 → begins_number (q ∷ (others ++ after)) ≡ false
+    → IsRead table in_value (q ∷ others) after (record { characters = One 38; left = length (q ∷ others); missing_semicolon = false; fault = Some AbsenceOfDigitsInNumericCharacterReference; is_ambiguous = false })
+no_number table in_value q others after is none = read_text table in_value (q ∷ others) after _ refl refl (λ amp amp-is. no_digits amp amp-is (begins_sign q (others ++ after) is) none refl)
+
 pub no_decimal : (table : Entities) (in_value : Bool) (text after : List Placed) (p : Placed) → IsSign Decimal text → is_digit p.ch ≡ false → nat_eq p.ch 120 ≡ false → nat_eq p.ch 88 ≡ false
     → IsRead table in_value (text ++ p ∷ []) after (record { characters = One 38; left = 2; missing_semicolon = false; fault = Some AbsenceOfDigitsInNumericCharacterReference; is_ambiguous = false })
 no_decimal table in_value _ after p (number_sign q is) digit x capital =
-    read_text table in_value (q ∷ p ∷ []) after _ refl refl (λ amp amp-is. no_digits amp amp-is (begins_sign q (p ∷ after) is)
-    (let first : nat_eq q.ch 35 ≡ true = grind (arith, nat_tests) in rw (first, digit, x, capital) refl) refl)
+    no_number table in_value q (p ∷ []) after is (let first : nat_eq q.ch 35 ≡ true = grind (arith, nat_tests) in rw (first, digit, x, capital) refl)
 
 pub no_sign : (table : Entities) (in_value : Bool) (text : List Placed) → IsSign Decimal text
     → IsRead table in_value text [] (record { characters = One 38; left = 1; missing_semicolon = false; fault = Some AbsenceOfDigitsInNumericCharacterReference; is_ambiguous = false })
-no_sign table in_value _ (number_sign q is) =
-    read_text table in_value (q ∷ []) [] _ refl refl (λ amp amp-is. no_digits amp amp-is (begins_sign q [] is)
-    (let first : nat_eq q.ch 35 ≡ true = grind (arith, nat_tests) in rw first refl) refl)
+no_sign table in_value _ (number_sign q is) = no_number table in_value q [] [] is (let first : nat_eq q.ch 35 ≡ true = grind (arith, nat_tests) in rw first refl)
 
 no_number_after : (q r : Placed) (rest : List Placed) → q.ch ≡ 35 → is_digit r.ch ≡ false → begins is_hex_digit rest ≡ false → begins_number (q ∷ r ∷ rest) ≡ false
 no_number_after q r rest is digit hex = let first : nat_eq q.ch 35 ≡ true = grind (arith, nat_tests) in rw (first, digit, hex) (and-false (nat_eq r.ch 120 || nat_eq r.ch 88))
 
 pub no_hexadecimal : (table : Entities) (in_value : Bool) (text after : List Placed) (p : Placed) → IsSign Hexadecimal text → is_hex_digit p.ch ≡ false
     → IsRead table in_value (text ++ p ∷ []) after (record { characters = One 38; left = 3; missing_semicolon = false; fault = Some AbsenceOfDigitsInNumericCharacterReference; is_ambiguous = false })
-no_hexadecimal table in_value _ after p (small_x q r is x) digit =
-    read_text table in_value (q ∷ r ∷ p ∷ []) after _ refl refl (λ amp amp-is. no_digits amp amp-is (begins_sign q (r ∷ p ∷ after) is) (no_number_after q r (p ∷ after) is (ap is_digit x) digit) refl)
-no_hexadecimal table in_value _ after p (capital_x q r is x) digit =
-    read_text table in_value (q ∷ r ∷ p ∷ []) after _ refl refl (λ amp amp-is. no_digits amp amp-is (begins_sign q (r ∷ p ∷ after) is) (no_number_after q r (p ∷ after) is (ap is_digit x) digit) refl)
+no_hexadecimal table in_value _ after p (small_x q r is x) digit = no_number table in_value q (r ∷ p ∷ []) after is (no_number_after q r (p ∷ after) is (ap is_digit x) digit)
+no_hexadecimal table in_value _ after p (capital_x q r is x) digit = no_number table in_value q (r ∷ p ∷ []) after is (no_number_after q r (p ∷ after) is (ap is_digit x) digit)
 
 pub no_x : (table : Entities) (in_value : Bool) (text : List Placed) → IsSign Hexadecimal text
     → IsRead table in_value text [] (record { characters = One 38; left = 2; missing_semicolon = false; fault = Some AbsenceOfDigitsInNumericCharacterReference; is_ambiguous = false })
-no_x table in_value _ (small_x q r is x) =
-    read_text table in_value (q ∷ r ∷ []) [] _ refl refl (λ amp amp-is. no_digits amp amp-is (begins_sign q (r ∷ []) is) (no_number_after q r [] is (ap is_digit x) refl) refl)
-no_x table in_value _ (capital_x q r is x) =
-    read_text table in_value (q ∷ r ∷ []) [] _ refl refl (λ amp amp-is. no_digits amp amp-is (begins_sign q (r ∷ []) is) (no_number_after q r [] is (ap is_digit x) refl) refl)
+no_x table in_value _ (small_x q r is x) = no_number table in_value q (r ∷ []) [] is (no_number_after q r [] is (ap is_digit x) refl)
+no_x table in_value _ (capital_x q r is x) = no_number table in_value q (r ∷ []) [] is (no_number_after q r [] is (ap is_digit x) refl)
 
 -- an `&` before something else, or before nothing
 pub alone_before : (table : Entities) (in_value : Bool) (p : Placed) (after : List Placed) → is_alphanumeric p.ch ≡ false → nat_eq p.ch 35 ≡ false
@@ -114,33 +109,40 @@ next_digit table in_value _ _ _ p d next (in_number base value sign digits text 
     ∙ ap (λ n. min n 0x110000) (sym (number_from-more 0 (radix base) digits p)))
 
 -- the number that was read, with its `;` or without
-number_errors : (at value n : ℕ) (missing : Bool) → numbered value ≡ numbered n → number_fault value ≡ number_fault n → (left : ℕ) (after : List Placed)
+number_errors : (at value n : ℕ) (missing : Bool) → value ≡ min n 0x110000 → (left : ℕ) (after : List Placed)
     → errors_of (number_reference value left missing) at after ≡ error_if missing MissingSemicolonAfterCharacterReference at ++ map (λ code. error code at) (option_to_list (number_fault n))
-number_errors at value n missing same fault left after =
+number_errors at value n missing is left after =
     append-nil (error_if missing MissingSemicolonAfterCharacterReference at ++ map (λ code. error code at) (option_to_list (number_fault value)))
-    ∙ ap (λ o. error_if missing MissingSemicolonAfterCharacterReference at ++ map (λ code. error code at) (option_to_list o)) fault
+    ∙ ap (λ o. error_if missing MissingSemicolonAfterCharacterReference at ++ map (λ code. error code at) (option_to_list o)) (ap number_fault is ∙ number_fault-min n)
+
+number_gives : (value n : ℕ) → value ≡ min n 0x110000 → numbered value ≡ numbered n
+number_gives value n is = ap numbered is ∙ numbered-min n
 
 number_reads : (table : Entities) (in_value : Bool) (base : Base) (sign digits close rest after : List Placed) (value left : ℕ) → IsSign base sign → begins (is_digit_of base) digits ≡ true → all (is_digit_of base) digits ≡ true
     → value ≡ min (number_from 0 (radix base) digits) 0x110000 → stops (λ c. not (is_digit_of base c)) (close ++ rest) ≡ true → is_semicolon_if_any close rest ≡ true
     → (amp : Placed) → amp.ch ≡ 38 → IsReference table in_value rest (record { text = amp ∷ (sign ++ digits ++ close); gives = numbered value ∷ []; errors = errors_of (number_reference value left (is_empty close)) amp.at after })
 number_reads table in_value Decimal _ digits close rest after value left (number_sign q is) opens run value-is stop semicolon amp amp-is =
-    let n : ℕ = number_from 0 10 digits in
-    let same : numbered value ≡ numbered n = ap numbered value-is ∙ numbered-min n in
-    let fault : number_fault value ≡ number_fault n = ap number_fault value-is ∙ number_fault-min n in
     decimal (amp ∷ q ∷ []) digits close (λ i. amp-is i ∷ is i ∷ []) opens (record { passes_none = all-not-not is_digit digits run; stops_after = stop }) semicolon
-    (λ i. record { text = amp ∷ q ∷ digits ++ close; gives = same i ∷ []; errors = number_errors amp.at value n (is_empty close) same fault left after i })
+    (λ i. record { text = amp ∷ q ∷ digits ++ close; gives = number_gives value (number_from 0 10 digits) value-is i ∷ []; errors = number_errors amp.at value (number_from 0 10 digits) (is_empty close) value-is left after i })
 number_reads table in_value Hexadecimal _ digits close rest after value left (small_x q r is x) opens run value-is stop semicolon amp amp-is =
-    let n : ℕ = number_from 0 16 digits in
-    let same : numbered value ≡ numbered n = ap numbered value-is ∙ numbered-min n in
-    let fault : number_fault value ≡ number_fault n = ap number_fault value-is ∙ number_fault-min n in
     hexadecimal (amp ∷ q ∷ r ∷ []) digits close (λ i. to_ascii_lowercase (amp-is i) ∷ to_ascii_lowercase (is i) ∷ to_ascii_lowercase (x i) ∷ []) opens (record { passes_none = all-not-not is_hex_digit digits run; stops_after = stop }) semicolon
-    (λ i. record { text = amp ∷ q ∷ r ∷ digits ++ close; gives = same i ∷ []; errors = number_errors amp.at value n (is_empty close) same fault left after i })
+    (λ i. record { text = amp ∷ q ∷ r ∷ digits ++ close; gives = number_gives value (number_from 0 16 digits) value-is i ∷ []; errors = number_errors amp.at value (number_from 0 16 digits) (is_empty close) value-is left after i })
 number_reads table in_value Hexadecimal _ digits close rest after value left (capital_x q r is x) opens run value-is stop semicolon amp amp-is =
-    let n : ℕ = number_from 0 16 digits in
-    let same : numbered value ≡ numbered n = ap numbered value-is ∙ numbered-min n in
-    let fault : number_fault value ≡ number_fault n = ap number_fault value-is ∙ number_fault-min n in
     hexadecimal (amp ∷ q ∷ r ∷ []) digits close (λ i. to_ascii_lowercase (amp-is i) ∷ to_ascii_lowercase (is i) ∷ to_ascii_lowercase (x i) ∷ []) opens (record { passes_none = all-not-not is_hex_digit digits run; stops_after = stop }) semicolon
-    (λ i. record { text = amp ∷ q ∷ r ∷ digits ++ close; gives = same i ∷ []; errors = number_errors amp.at value n (is_empty close) same fault left after i })
+    (λ i. record { text = amp ∷ q ∷ r ∷ digits ++ close; gives = number_gives value (number_from 0 16 digits) value-is i ∷ []; errors = number_errors amp.at value (number_from 0 16 digits) (is_empty close) value-is left after i })
+
+number_told : (table : Entities) (in_value : Bool) (base : Base) (value : ℕ) (text close back after : List Placed) (left : ℕ) → IsHeldReference table in_value (Number base value) text → left ≡ length back
+    → stops (λ c. not (is_digit_of base c)) (close ++ (back ++ after)) ≡ true → is_semicolon_if_any close (back ++ after) ≡ true → IsRead table in_value ((text ++ close) ++ back) after (number_reference value left (is_empty close))
+number_told table in_value _ _ _ close back after left (in_number base value sign digits text text-is is opens run value-is) few stop semicolon =
+    let size : length ((text ++ close) ++ back) ≡ length (text ++ close) + length back = length-append (text ++ close) back in
+    let cut : length (text ++ close) ≡ length ((text ++ close) ++ back) - left = omega arith in
+    let belongs : take (length ((text ++ close) ++ back) - left) ((text ++ close) ++ back) ≡ sign ++ digits ++ close = take_at (text ++ close) back _ cut ∙ ap (λ xs. xs ++ close) text-is in
+    let gone : drop (length ((text ++ close) ++ back) - left) ((text ++ close) ++ back) ≡ back = drop_at (text ++ close) back _ cut in
+    record {
+      within = omega arith;
+      run = no_run false refl;
+      reads = λ amp amp-is. rw (belongs, gone) (number_reads table in_value base sign digits close (back ++ after) after value left is opens run value-is stop semicolon amp amp-is);
+    }
 
 no_digit_semicolon : (base : Base) → is_digit_of base 59 ≡ false
 no_digit_semicolon Decimal = refl
@@ -149,36 +151,16 @@ no_digit_semicolon Hexadecimal = refl
 -- the `;` of a number
 pub number_closed : (table : Entities) (in_value : Bool) (base : Base) (value : ℕ) (text after : List Placed) (p : Placed) → IsHeldReference table in_value (Number base value) text → p.ch ≡ 59
     → IsRead table in_value (text ++ p ∷ []) after (number_reference value 0 false)
-number_closed table in_value _ _ _ after p (in_number base value sign digits text text-is is opens run value-is) semicolon =
-    let belongs : take (length (text ++ p ∷ []) - 0) (text ++ p ∷ []) ≡ sign ++ digits ++ p ∷ [] = take_all _ (text ++ p ∷ []) (omega arith) ∙ ap (λ xs. xs ++ p ∷ []) text-is in
-    let gone : drop (length (text ++ p ∷ []) - 0) (text ++ p ∷ []) ≡ [] = drop_all _ (text ++ p ∷ []) (omega arith) in
-    record {
-      within = omega arith;
-      run = no_run false refl;
-      reads = λ amp amp-is. rw (belongs, gone) (number_reads table in_value base sign digits (p ∷ []) after after value 0 is opens run value-is
-          (ap not (ap (is_digit_of base) semicolon ∙ no_digit_semicolon base)) (let test : nat_eq p.ch 59 ≡ true = grind (arith, nat_tests) in and_from _ _ test refl) amp amp-is);
-    }
+number_closed table in_value base value text after p held semicolon =
+    subst (λ xs. IsRead table in_value xs after (number_reference value 0 false)) (append-nil (text ++ p ∷ []))
+    (number_told table in_value base value text (p ∷ []) [] after 0 held refl (ap not (ap (is_digit_of base) semicolon ∙ no_digit_semicolon base)) (let test : nat_eq p.ch 59 ≡ true = grind (arith, nat_tests) in and_from _ _ test refl))
 
 -- and another character after its digits, or the end
 pub number_open : (table : Entities) (in_value : Bool) (base : Base) (value : ℕ) (text after : List Placed) (p : Placed) → IsHeldReference table in_value (Number base value) text → is_digit_of base p.ch ≡ false → nat_eq p.ch 59 ≡ false
     → IsRead table in_value (text ++ p ∷ []) after (number_reference value 1 true)
-number_open table in_value _ _ _ after p (in_number base value sign digits text text-is is opens run value-is) digit semicolon =
-    let size : length (text ++ p ∷ []) ≡ length text + 1 = length-append text (p ∷ []) in
-    let before : length (text ++ p ∷ []) - 1 ≡ length text = omega arith in
-    let belongs : take (length (text ++ p ∷ []) - 1) (text ++ p ∷ []) ≡ sign ++ digits ++ [] = ap (λ n. take n (text ++ p ∷ [])) before ∙ take-append_seam text (p ∷ []) ∙ text-is ∙ sym (append-nil (sign ++ digits)) in
-    let gone : drop (length (text ++ p ∷ []) - 1) (text ++ p ∷ []) ≡ p ∷ [] = drop-seam text (p ∷ []) _ before in
-    record {
-      within = omega arith;
-      run = no_run false refl;
-      reads = λ amp amp-is. rw (belongs, gone) (number_reads table in_value base sign digits [] (p ∷ after) after value 1 is opens run value-is (ap not digit) (ap not semicolon) amp amp-is);
-    }
+number_open table in_value base value text after p held digit semicolon =
+    subst (λ xs. IsRead table in_value (xs ++ p ∷ []) after (number_reference value 1 true)) (append-nil text) (number_told table in_value base value text [] (p ∷ []) after 1 held refl (ap not digit) (ap not semicolon))
 
 pub number_at_end : (table : Entities) (in_value : Bool) (base : Base) (value : ℕ) (text : List Placed) → IsHeldReference table in_value (Number base value) text → IsRead table in_value text [] (number_reference value 0 true)
-number_at_end table in_value _ _ _ (in_number base value sign digits text text-is is opens run value-is) =
-    let belongs : take (length text - 0) text ≡ sign ++ digits ++ [] = take_all _ text (omega arith) ∙ text-is ∙ sym (append-nil (sign ++ digits)) in
-    let gone : drop (length text - 0) text ≡ [] = drop_all _ text (omega arith) in
-    record {
-      within = omega arith;
-      run = no_run false refl;
-      reads = λ amp amp-is. rw (belongs, gone) (number_reads table in_value base sign digits [] [] [] value 0 is opens run value-is refl refl amp amp-is);
-    }
+number_at_end table in_value base value text held =
+    subst (λ xs. IsRead table in_value xs [] (number_reference value 0 true)) (append-nil (text ++ []) ∙ append-nil text) (number_told table in_value base value text [] [] [] 0 held refl refl refl)

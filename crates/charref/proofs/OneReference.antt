@@ -2,7 +2,7 @@
 use Rattle.charref.proofs.Names.{arith, ◌≡◌, ◌⊎◌, inl, inr, ℕ, ◌-◌, Bool, true, false, not, ◌&&◌, ◌||◌, ◌==◌, cond, List, [], ◌∷◌, ◌++◌, length, take, drop, Option, Some, None, refl, sym, ap, ◌∙◌, subst, append_assoc, codes, and_parts, false≢true, nat_tests, length-map, to_ascii_lowercase, begins-append, Placed, UnknownNamedCharacterReference, AbsenceOfDigitsInNumericCharacterReference, characters, begins, stops, all, past, is_digit, is_alphanumeric, error, error_if, Entry, Entities, Piece, longest, is_kept_as_text, is_hex_digit, begins_number, is_semicolon_if_any, named_piece, IsReference, named, kept, unknown, decimal, hexadecimal, no_digits, alone}
 use Rattle.std.proofs.Math.Bool.{or-true}
 use Rattle.std.proofs.Math.Seq.{drop-append_seam, take-append_seam}
-use Rattle.std.proofs.lemmas.Bool.{not-true, not-false}
+use Rattle.std.proofs.lemmas.Bool.{not-true, not-false, or_parts}
 use Rattle.names.specs.Placed.{lowered, RunsTo}
 use Rattle.charref.specs.Reference.{ampersand, numeric_piece}
 
@@ -82,13 +82,9 @@ past_key name rest amp key e =
     let n : length key - 1 ≡ length name = rw (← e) (grind (arith, length-map)) in
     (ap (λ (k : ℕ). drop k (name ++ rest)) n ∙ drop-append_seam name rest, ap (λ (k : ℕ). take k (name ++ rest)) n ∙ take-append_seam name rest)
 
-neither : (a b : Bool) → (a || b) ≡ false → (a ≡ false) × (b ≡ false)
-neither true b h = absurd (false≢true (sym h))
-neither false b h = (refl, h)
-
 alone_tests : (rest : List Placed) → begins (λ c. is_alphanumeric c || c == 35) rest ≡ false → (begins is_alphanumeric rest ≡ false) × (begins (λ c. c == 35) rest ≡ false)
 alone_tests [] h = (refl, refl)
-alone_tests (p ∷ ps) h = neither (is_alphanumeric p.ch) (p.ch == 35) h
+alone_tests (p ∷ ps) h = or_parts (is_alphanumeric p.ch) (p.ch == 35) h
 
 sign_no_letter : (c : ℕ) → (c == 35) ≡ true → is_alphanumeric c ≡ false
 sign_no_letter c h = grind (arith, nat_tests)

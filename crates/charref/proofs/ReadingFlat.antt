@@ -1,5 +1,5 @@
 -- Reading a flat form, entry by entry.
-use Rattle.charref.proofs.Names.{arith, ◌≡◌, ℕ, suc, ◌+◌, ◌-◌, ◌*◌, ◌≤◌, ◌<◌, Bool, true, false, true≢false, ◌&&◌, ◌==◌, nat_le, List, [], ◌∷◌, ◌++◌, map, length, take, drop, slice_get, get_or, is_lt, Less, refl, sym, ap, ◌∙◌, subst, append_assoc, and_parts, and_from, nat_tests, append-nil, take-append-drop, take_rest, drop-drop, length-drop, map-append, slice_cmp, list_all, flat_map, Entity, Characters, characters_of, Entry, Entities, is_key, is_character, key_at, entry, entries, is_one_or_two, flat_character, flat_characters, flat_entry, flat_of, IsReadable, passes_byte, is_count, BeginsWith, BeginsWithNone, IsCounted, HasNoCounted, IsEntity, IsEntryTo, is_table_entry, entity_to, next_place, characters_in, All, length-append}
+use Rattle.charref.proofs.Names.{arith, ◌≡◌, ℕ, suc, ◌+◌, ◌-◌, ◌*◌, ◌≤◌, ◌<◌, Bool, true, false, true≢false, ◌&&◌, nat_le, List, [], ◌∷◌, ◌++◌, map, length, take, drop, slice_get, get_or, is_lt, Less, refl, sym, ap, ◌∙◌, subst, append_assoc, and_parts, and_from, nat_tests, append-nil, take-append-drop, take_rest, drop-drop, length-drop, map-append, slice_cmp, list_all, flat_map, Entity, Characters, characters_of, Entry, Entities, is_key, is_character, key_at, entry, entries, is_one_or_two, flat_character, flat_characters, flat_entry, flat_of, IsReadable, passes_byte, is_count, BeginsWith, BeginsWithNone, IsCounted, HasNoCounted, IsEntity, IsEntryTo, is_table_entry, entity_to, next_place, characters_in, All, length-append}
 use Rattle.std.specs.List.Sorted.{IsStrictlySortedBy}
 use Rattle.std.proofs.Common.{nat_cmp, Ordering}
 use Rattle.std.proofs.lemmas.List.{drop_all, drop_more, get_or-drop, length-take-le}
@@ -7,6 +7,7 @@ use Rattle.std.proofs.lemmas.List.Folds.{list_all-append}
 use Rattle.std.proofs.Math.Seq.{drop-cons, drop-append_seam}
 use Rattle.std.proofs.lemmas.List.Elements.{All-push}
 use Rattle.charref.proofs.Fronts.{passes_at}
+use Rattle.charref.proofs.Naming.{key_size}
 use Rattle.charref.proofs.Members.{readable_from_parts}
 use Rattle.charref.proofs.Orders.{last_key, last_key-more, sorted_more, last_below}
 use Rattle.charref.proofs.Forms.{flat_more, counted, read_characters, key_past, same_key, same_entries, entry_split, are_entries, Rest, rest_of, tail_of}
@@ -50,11 +51,6 @@ no_entry_characters bytes n key none e rest is same =
 some_count : (cs : List ℕ) → is_one_or_two cs ≡ true → 1 ≤ length cs
 some_count [] is = absurd (true≢false (sym is))
 some_count (c ∷ cs) is = omega arith
-
-key_size : (key : List ℕ) → is_key key ≡ true → 2 ≤ length key
-key_size [] is = absurd (true≢false (sym is))
-key_size (c ∷ []) is = absurd (true≢false (sym (and_parts (c == 38) false is).1))
-key_size (c ∷ d ∷ cs) is = omega arith
 
 pub entry_stands : (text : List ℕ) (start n : ℕ) (cs : Characters) → start ≤ length text → n < length (drop start text) → is_key (take n (drop start text)) ≡ true → is_one_or_two (characters_of cs) ≡ true
     → BeginsWith (flat_characters (characters_of cs)) (drop (start + n) text) (1 + 4 * length (characters_of cs)) → IsEntryTo text start (start + n)

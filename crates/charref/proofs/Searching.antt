@@ -1,39 +1,24 @@
 -- A search, byte by byte.
-use Rattle.charref.proofs.Names.{arith, ◌≡◌, ℕ, ◌+◌, ◌-◌, ◌≤◌, ◌<◌, ◌==◌, true, false, true≢false, nat_eq, cond, List, [], ◌∷◌, ◌++◌, length, slice_get, Option, Some, None, refl, sym, ap, ◌∙◌, subst, length-append, and_parts, nat_tests, slice_get_within, starts_with, list_all, some_same, Search, Entry, Entities, longest, longer_entry, is_key, best_entry, IsSortedTable, IsRange, IsRising, IsParted, IsOver, EntryGoesOn, SearchHasRead}
-use Rattle.charref.proofs.Keys.{whole, no_longer, begins_itself, longest-whole, longest-more, longest-over}
+use Rattle.charref.proofs.Names.{arith, ◌≡◌, ℕ, ◌+◌, ◌-◌, ◌≤◌, ◌<◌, ◌==◌, true, false, true≢false, nat_eq, List, [], ◌∷◌, ◌++◌, length, slice_get, Some, None, refl, sym, ap, ◌∙◌, subst, length-append, and_parts, nat_tests, slice_get_within, starts_with, some_same, Search, Entry, Entities, longest, is_key, best_entry, IsSortedTable, IsRange, IsRising, IsParted, IsOver, EntryGoesOn, SearchHasRead}
+use Rattle.charref.proofs.Keys.{whole, no_longer, begins_itself, longest-whole, longest-more, longest-none, longest-over}
 use Rattle.charref.proofs.Naming.{is_key_of}
 use Rattle.charref.proofs.Ranges.{range_rises, rises_later, range_more, range_over, only_first, within, inside}
 
--- the empty text begins with no key
-longest-nothing : (table : Entities) → list_all (λ e. is_key e.key) table ≡ true → longest table [] ≡ None
-longest-nothing [] keys = refl
-longest-nothing (x ∷ xs) keys = by x.key (and_parts _ _ keys).0 (longest-nothing xs (and_parts _ _ keys).1)
-  where
-    by : (key : List ℕ) → is_key key ≡ true → longest xs [] ≡ None → cond (starts_with nat_eq [] key) (longer_entry x (longest xs [])) (longest xs []) ≡ None
-    by [] is others = absurd (true≢false (sym is))
-    by (c ∷ cs) is others = others
+-- Every key begins with the `&`, and no key is the `&` alone.
+begins_with_ampersand : (key : List ℕ) → is_key key ≡ true → (starts_with nat_eq key (38 ∷ []) ≡ true) × (starts_with nat_eq (38 ∷ []) key ≡ false) × (starts_with nat_eq [] key ≡ false)
+begins_with_ampersand [] is = absurd (true≢false (sym is))
+begins_with_ampersand (c ∷ []) is = absurd (true≢false (sym (and_parts _ _ is).1))
+begins_with_ampersand (c ∷ d ∷ ds) is =
+    let first : c ≡ 38 = (let test : (c == 38) ≡ true = (and_parts _ _ is).0 in grind (arith, nat_tests)) in
+    subst (λ x. (starts_with nat_eq (x ∷ d ∷ ds) (38 ∷ []) ≡ true) × (starts_with nat_eq (38 ∷ []) (x ∷ d ∷ ds) ≡ false) × (starts_with nat_eq [] (x ∷ d ∷ ds) ≡ false)) (sym first) (refl, refl, refl)
 
 pub read_nothing : (table : Entities) (high : ℕ) → IsSortedTable table → high ≡ length table → SearchHasRead (record { depth = 0; low = 0; high = high; best = None }) table []
 read_nothing table high sorted all = record {
   depth = refl;
   range = record { ordered = omega arith; within = omega arith; exact = λ k e p. sym (inside 0 high k (omega arith) (let w : k < length table = slice_get_within table k e p in omega arith)) };
   within = tt;
-  best = sym (longest-nothing table sorted.is_table.keys);
+  best = sym (longest-none table [] (λ k e at. (begins_with_ampersand e.key (is_key_of table k e sorted.is_table at)).2));
 }
-
--- Every key begins with the `&`, and no key is the `&` alone.
-begins_with_ampersand : (key : List ℕ) → is_key key ≡ true → (starts_with nat_eq key (38 ∷ []) ≡ true) × (starts_with nat_eq (38 ∷ []) key ≡ false)
-begins_with_ampersand [] is = absurd (true≢false (sym is))
-begins_with_ampersand (c ∷ []) is = absurd (true≢false (sym (and_parts _ _ is).1))
-begins_with_ampersand (c ∷ d ∷ ds) is =
-    let first : c ≡ 38 = (let test : (c == 38) ≡ true = (and_parts _ _ is).0 in grind (arith, nat_tests)) in
-    subst (λ x. (starts_with nat_eq (x ∷ d ∷ ds) (38 ∷ []) ≡ true) × (starts_with nat_eq (38 ∷ []) (x ∷ d ∷ ds) ≡ false)) (sym first) (refl, refl)
-
-longest-ampersand : (table : Entities) → list_all (λ e. is_key e.key) table ≡ true → longest table (38 ∷ []) ≡ None
-longest-ampersand [] keys = refl
-longest-ampersand (x ∷ xs) keys =
-    let test : starts_with nat_eq (38 ∷ []) x.key ≡ false = (begins_with_ampersand x.key (and_parts _ _ keys).0).1 in
-    rw test (longest-ampersand xs (and_parts _ _ keys).1)
 
 pub read_ampersand : (table : Entities) (high : ℕ) → IsSortedTable table → high ≡ length table → SearchHasRead (record { depth = 1; low = 0; high = high; best = None }) table (38 ∷ [])
 read_ampersand table high sorted all = record {
@@ -44,7 +29,7 @@ read_ampersand table high sorted all = record {
     exact = λ k e p. (begins_with_ampersand e.key (is_key_of table k e sorted.is_table p)).0 ∙ sym (inside 0 high k (omega arith) (let w : k < length table = slice_get_within table k e p in omega arith));
   };
   within = tt;
-  best = sym (longest-ampersand table sorted.is_table.keys);
+  best = sym (longest-none table (38 ∷ []) (λ k e at. (begins_with_ampersand e.key (is_key_of table k e sorted.is_table at)).1));
 }
 
 -- The range of one byte more, by the two places that part the range.
@@ -123,7 +108,3 @@ last_over table search bytes e sorted read open' got size =
 
 pub none_over : (table : Entities) (search : Search) (bytes : List ℕ) → SearchHasRead search table bytes → search.high ≤ search.low → IsOver table bytes
 none_over table search bytes read none = range_over table bytes search.low search.high read.range (let o : search.low ≤ search.high = read.range.ordered in omega arith)
-
--- the entry at the place of the longest key
-pub best_found : (table : Entities) (best : Option ℕ) (b : ℕ) (e : Entry) → best ≡ Some b → slice_get table b ≡ Some e → best_entry table best ≡ Some e
-best_found table best b e some got = ap (best_entry table) some ∙ got

@@ -1,5 +1,5 @@
 -- A reference that was reported, as the definition has it.
-use Rattle.charref.proofs.Names.{arith, ◌≡◌, ◌⊎◌, inl, inr, ℕ, suc, ◌+◌, ◌-◌, ◌≤◌, ◌<◌, Bool, true, false, true≢false, not, ◌&&◌, ◌||◌, ◌==◌, cond, nat_eq, nat_lt, List, [], ◌∷◌, ◌++◌, length, take, drop, slice_get, Some, None, refl, sym, ap, ◌∙◌, subst, append_assoc, length-append, append-nil, map-append, length-map, take-append-drop, and_parts, nat_tests, starts_with, begins-append, Placed, MissingSemicolonAfterCharacterReference, UnknownNamedCharacterReference, characters, begins, all, is_empty, past, is_alphanumeric, is_equals, error_if, Alphanumeric, Semicolon, Equals, Other, Reference, Characters, One, Entry, Entities, IsTable, longest, ends_in_semicolon, is_kept_as_text, IsReference, named, kept, unknown, key_bytes, IsSettled, last_of, is_kept_before, IsRead, characters_of, errors_of, unknown_of}
+use Rattle.charref.proofs.Names.{arith, ◌≡◌, ◌⊎◌, inl, inr, ℕ, suc, ◌+◌, ◌-◌, ◌≤◌, ◌<◌, Bool, true, false, true≢false, not, ◌&&◌, ◌||◌, ◌==◌, cond, nat_eq, nat_lt, List, [], ◌∷◌, ◌++◌, length, take, drop, slice_get, Some, None, refl, sym, ap, ◌∙◌, subst, append_assoc, length-append, append-nil, map-append, length-map, take-append-drop, and_parts, and_from, nat_tests, starts_with, some_same, begins-append, Placed, MissingSemicolonAfterCharacterReference, UnknownNamedCharacterReference, characters, begins, all, is_empty, past, is_alphanumeric, is_equals, error_if, Alphanumeric, Semicolon, Equals, Other, Reference, Characters, One, Entry, Entities, IsTable, longest, ends_in_semicolon, is_kept_as_text, IsReference, named, kept, unknown, key_bytes, IsSettled, last_of, is_kept_before, IsRead, characters_of, errors_of, unknown_of}
 use Rattle.std.proofs.Math.Bool.{or-true, and-false}
 use Rattle.std.proofs.lemmas.Bool.{cases_order}
 use Rattle.std.proofs.lemmas.List.{drop_all, drop-append-le}
@@ -9,7 +9,8 @@ use Rattle.charref.specs.declared.last.Last.{Last}
 use Rattle.charref.specs.Last.{goes_on_name}
 use Rattle.charref.proofs.Keys.{no_longer}
 use Rattle.charref.proofs.Core.{longest_among}
-use Rattle.charref.proofs.Naming.{key_of, take-map, past-run, begins-drop, drop-seam, is_key_of, Opens, key_opens}
+use Rattle.charref.proofs.Extending.{letter_of}
+use Rattle.charref.proofs.Naming.{key_of, take-map, past-run, begins-drop, drop-seam, is_key_of, Opens, key_opens, some_key}
 
 begins_first : (test : ℕ → Bool) (name : List Placed) (c : ℕ) (cs : List ℕ) → characters name ≡ c ∷ cs → begins test name ≡ test c
 begins_first test [] c cs h = absurd (cc)
@@ -49,7 +50,7 @@ module _ (table : Entities) (in_value : Bool) (text after : List Placed) (is_tab
   opens = key_opens e.key (is_key_of table among.0 e is_table among.1)
 
   pub least : 2 ≤ length e.key
-  least = let size : length e.key ≡ length (38 ∷ opens.first ∷ opens.others) = ap length opens.is in omega arith
+  least = some_key table among.0 e is_table among.1
 
   pub most : length e.key ≤ length text + 1
   most = let size : length e.key ≤ length (key_bytes text) = no_longer (key_bytes text) e.key among.2 in let count : length (characters text) ≡ length text = length-map text (λ p. p.ch) in omega arith
@@ -148,45 +149,43 @@ unknown_errors front p after at left run = by (is_alphanumeric p.ch) (nat_eq p.c
     by false false true x y z = rw y refl
     by false false false x y z = rw y refl
 
-unknown_left : (left : ℕ) (last : Last) → (unknown_of left last).left ≡ left
-unknown_left left Alphanumeric = refl
-unknown_left left _ = refl
-
-unknown_gives : (left : ℕ) (last : Last) → characters_of (unknown_of left last).characters ≡ 38 ∷ []
-unknown_gives left Alphanumeric = refl
-unknown_gives left _ = refl
-
 run_opens : (front : List Placed) (p : Placed) (after : List Placed) → all is_alphanumeric front ≡ true → (is_empty front ≡ true → is_alphanumeric p.ch ≡ true) → begins is_alphanumeric (front ++ p ∷ [] ++ after) ≡ true
 run_opens [] p after run first = first refl
 run_opens (q ∷ qs) p after run first = (and_parts _ _ run).0
 
-unknown_run : (left : ℕ) (front : List Placed) (p : Placed) → all is_alphanumeric front ≡ true → (unknown_of left (last_of p.ch)).is_ambiguous ≡ true → all is_alphanumeric (front ++ p ∷ []) ≡ true
-unknown_run left front p run = by (is_alphanumeric p.ch) (nat_eq p.ch 59) (is_equals p.ch) refl
-  where
-    by : (a b d : Bool) → is_alphanumeric p.ch ≡ a → (unknown_of left (cond a Alphanumeric (cond b Semicolon (cond d Equals Other)))).is_ambiguous ≡ true → all is_alphanumeric (front ++ p ∷ []) ≡ true
-    by true b d is told = all-append is_alphanumeric front (p ∷ []) run (rw is refl)
-    by false true d is told = cc
-    by false false true is told = cc
-    by false false false is told = cc
-
 pub read_unknown : (table : Entities) (in_value : Bool) (front : List Placed) (p : Placed) (after : List Placed) (left : ℕ) → all is_alphanumeric front ≡ true → (is_empty front ≡ true → is_alphanumeric p.ch ≡ true)
     → left ≡ length (front ++ p ∷ []) → longest table (key_bytes (front ++ p ∷ [])) ≡ None → IsSettled table in_value (front ++ p ∷ []) after → IsRead table in_value (front ++ p ∷ []) after (unknown_of left (last_of p.ch))
 read_unknown table in_value front p after left run first left-is none settled =
-    read_run table in_value (front ++ p ∷ []) after (unknown_of left (last_of p.ch)) (unknown_left left (last_of p.ch) ∙ left-is) (unknown_run left front p run) (λ amp is.
+    read_run table in_value (front ++ p ∷ []) after (unknown_of left (last_of p.ch)) left-is (λ told. all-append is_alphanumeric front (p ∷ []) run (and_from (is_alphanumeric p.ch) true (sym (letter_of p.ch) ∙ told) refl)) (λ amp is.
     unknown amp is (run_opens front p after run first)
     (ap (λ c. longest table (c ∷ characters (front ++ p ∷ [] ++ after))) is ∙ ap (λ cs. longest table (38 ∷ cs)) (map-append (λ (q : Placed). q.ch) (front ++ p ∷ []) after) ∙ settled.same ∙ none)
-    (λ i. record { text = amp ∷ []; gives = unknown_gives left (last_of p.ch) i; errors = unknown_errors front p after amp.at left run i }))
+    (λ i. record { text = amp ∷ []; gives = 38 ∷ []; errors = unknown_errors front p after amp.at left run i }))
 
--- a key: it is kept, or its characters come
-pub kept_by : (table : Entities) (in_value : Bool) (front : List Placed) (p : Placed) (after : List Placed) (e : Entry) (left : ℕ) → IsTable table → all is_alphanumeric front ≡ true → longest table (key_bytes (front ++ p ∷ [])) ≡ Some e
-    → IsSettled table in_value (front ++ p ∷ []) after → left ≡ length (front ++ p ∷ []) - (length e.key - 1)
-    → is_kept_as_text in_value e.key (drop (length e.key - 1) (front ++ p ∷ []) ++ after) ≡ is_kept_before in_value (ends_in_semicolon e.key) left (last_of p.ch)
-kept_by table in_value front p after e left is_table run found settled left-is =
-    let text : List Placed = front ++ p ∷ [] in
-    let size : length (front ++ p ∷ []) ≡ length front + 1 = length-append front (p ∷ []) in
-    let two : 2 ≤ length e.key = least table in_value text after is_table e found settled.same in
-    let top : length e.key ≤ length (front ++ p ∷ []) + 1 = most table in_value text after is_table e found settled.same in
-    is_kept_at in_value front p after e.key (length e.key - 1) left run (omega arith) left-is (λ none. settled.not_kept e found (omega arith))
+-- the key at a place: it is kept, or its characters come
+module _ (table : Entities) (in_value : Bool) (k : ℕ) (key : List ℕ) (at : (e : Entry) × (slice_get table k ≡ Some e) × (key ≡ e.key)) (is_table : IsTable table) (front : List Placed) (p : Placed) (after : List Placed) (run : all is_alphanumeric front ≡ true)
+    (best : slice_get table k ≡ longest table (key_bytes (front ++ p ∷ []))) (settled : IsSettled table in_value (front ++ p ∷ []) after) (left : ℕ) (left-is : left ≡ length (front ++ p ∷ []) - (length key - 1))
+    (semicolon keeps : Bool) (last : Last) (semicolon-is : semicolon ≡ ends_in_semicolon key) (last-is : last ≡ last_of p.ch) (keeps-is : keeps ≡ is_kept_before in_value semicolon left last) where
+  found_at : longest table (key_bytes (front ++ p ∷ [])) ≡ Some at.0
+  found_at = sym best ∙ at.1
 
-pub some_key : (table : Entities) (k : ℕ) (e : Entry) → IsTable table → slice_get table k ≡ Some e → 1 ≤ length e.key
-some_key table k e is_table h = let opened : Opens e.key = key_opens e.key (is_key_of table k e is_table h) in let size : length e.key ≡ length (38 ∷ opened.first ∷ opened.others) = ap length opened.is in omega arith
+  left_at : left ≡ length (front ++ p ∷ []) - (length at.0.key - 1)
+  left_at = left-is ∙ ap (λ (xs : List ℕ). length (front ++ p ∷ []) - (length xs - 1)) at.2
+
+  semicolon_at : semicolon ≡ ends_in_semicolon at.0.key
+  semicolon_at = semicolon-is ∙ ap ends_in_semicolon at.2
+
+  kept_at : is_kept_as_text in_value at.0.key (drop (length at.0.key - 1) (front ++ p ∷ []) ++ after) ≡ keeps
+  kept_at =
+      let size : length (front ++ p ∷ []) ≡ length front + 1 = length-append front (p ∷ []) in
+      let two : 2 ≤ length at.0.key = some_key table k at.0 is_table at.1 in
+      let top : length at.0.key ≤ length (front ++ p ∷ []) + 1 = most table in_value (front ++ p ∷ []) after is_table at.0 found_at settled.same in
+      is_kept_at in_value front p after at.0.key (length at.0.key - 1) left run (omega arith) left_at (λ none. settled.not_kept at.0 found_at (omega (arith, left_at)))
+      ∙ sym (keeps-is ∙ ap (λ (s : Bool). is_kept_before in_value s left last) semicolon_at ∙ ap (is_kept_before in_value (ends_in_semicolon at.0.key) left) last-is)
+
+  pub decides_text : (read : ℕ) → read ≡ length (front ++ p ∷ []) → keeps ≡ true → IsRead table in_value (front ++ p ∷ []) after (record { characters = One 38; left = read; missing_semicolon = false; fault = None; is_ambiguous = false })
+  decides_text read all is = read_kept table in_value (front ++ p ∷ []) after is_table at.0 found_at settled.same read all (kept_at ∙ is)
+
+  pub decides_key : (cs : Characters) → (e : Entry) × (slice_get table k ≡ Some e) × (characters_of cs ≡ e.stands_for) → keeps ≡ false
+      → IsRead table in_value (front ++ p ∷ []) after (record { characters = cs; left = left; missing_semicolon = not semicolon; fault = None; is_ambiguous = false })
+  decides_key cs (e, got, stands) is =
+      rw semicolon_at (read_named table in_value (front ++ p ∷ []) after is_table at.0 found_at settled.same cs left (stands ∙ ap (λ (y : Entry). y.stands_for) (some_same e at.0 (sym got ∙ at.1))) left_at (kept_at ∙ is))

@@ -4,7 +4,7 @@ use Rattle.std.proofs.Math.Nat.{zero-mul}
 use Rattle.charref.specs.AtOnce.{HasSign}
 use Rattle.charref.proofs.Numbers.{two_signs, first_digit, next_digit, number_closed}
 use Rattle.charref.proofs.Taking.{held_x}
-use Rattle.charref.proofs.AtOnce.{Last, last_placed, more_bytes}
+use Rattle.charref.proofs.AtOnce.{last_at, more_bytes}
 use Rattle.charref.proofs.Fronts.{run_more}
 
 -- SIGNS
@@ -23,9 +23,8 @@ pub x_taken : (bytes : List ℕ) (x : ℕ) → HasSign Decimal bytes 1 → 1 < l
 x_taken bytes x before within same is = record {
   few = omega arith;
   ascii = run_more is_ascii bytes 1 within before.ascii (x_ascii (get_or bytes 1 0) (subst (λ c. (c ≡ 120) ⊎ (c ≡ 88)) same is));
-  sign = λ at. let last : Last at (take 1 bytes) (get_or bytes 1 0) = last_placed at (take 1 bytes) (get_or bytes 1 0) in
-      subst (IsSign Hexadecimal) (sym (more_bytes bytes 1 within at last))
-      (held_x [] false (placed at (take 1 bytes) ++ last.p ∷ []) (two_signs [] false (placed at (take 1 bytes)) last.p (before.sign at) (subst (λ c. (c ≡ 120) ⊎ (c ≡ 88)) (same ∙ sym last.ch) is)));
+  sign = λ at. subst (IsSign Hexadecimal) (sym (more_bytes bytes 1 within at))
+      (held_x [] false (placed at (take 1 bytes) ++ last_at at bytes 1 ∷ []) (two_signs [] false (placed at (take 1 bytes)) (last_at at bytes 1) (before.sign at) (subst (λ c. (c ≡ 120) ⊎ (c ≡ 88)) same is)));
 }
 
 -- DIGITS
@@ -53,9 +52,7 @@ one_digit_more base bytes start count value byte d next sign before within is di
       small = omega arith;
       ascii = run_more is_ascii bytes count within before.ascii (ap is_ascii (sym is) ∙ digit_ascii base byte digit);
       none = λ same. absurd (omega arith);
-      some = λ less table at. let last : Last at (take count bytes) (get_or bytes count 0) = last_placed at (take count bytes) (get_or bytes count 0) in
-          subst (IsHeldReference table false (Number base next)) (sym (more_bytes bytes count within at last))
-          (held table at last.p (last.ch ∙ sym is) (nat_eq count start) refl);
+      some = λ less table at. subst (IsHeldReference table false (Number base next)) (sym (more_bytes bytes count within at)) (held table at (last_at at bytes count) (sym is) (nat_eq count start) refl);
     }
   where
     held : (table : Entities) (at : ℕ) (p : Placed) → p.ch ≡ byte → (b : Bool) → nat_eq count start ≡ b → IsHeldReference table false (Number base next) (placed at (take count bytes) ++ p ∷ [])
@@ -76,8 +73,7 @@ number_settles base bytes start count value found digits some within semicolon i
   some = omega arith;
   few = omega arith;
   ascii = run_more is_ascii bytes count within digits.ascii (ap is_ascii semicolon);
-  read = λ at after. let last : Last at (take count bytes) (get_or bytes count 0) = last_placed at (take count bytes) (get_or bytes count 0) in
-      subst (λ text. IsRead table false text after found) (sym (more_bytes bytes count within at last))
-      (subst (λ r. IsRead table false (placed at (take count bytes) ++ last.p ∷ []) after r) (sym is)
-      (number_closed table false base value (placed at (take count bytes)) after last.p (digits.some some table at) (last.ch ∙ semicolon)));
+  read = λ at after. subst (λ text. IsRead table false text after found) (sym (more_bytes bytes count within at))
+      (subst (λ r. IsRead table false (placed at (take count bytes) ++ last_at at bytes count ∷ []) after r) (sym is)
+      (number_closed table false base value (placed at (take count bytes)) after (last_at at bytes count) (digits.some some table at) semicolon));
 }

@@ -1,6 +1,7 @@
 -- The reference that a walk returns, as a piece of the text.
-use Rattle.std.specs.Prelude.{◌≡◌, ℕ, ◌-◌, ◌≤◌, Bool, true, false, Some, None, ◌&&◌, ◌==◌, List, [], ◌∷◌, ◌++◌, map, length, take, drop, option_to_list}
+use Rattle.std.specs.Prelude.{◌≡◌, ℕ, ◌-◌, ◌≤◌, Bool, true, false, Option, Some, None, ◌&&◌, ◌==◌, List, [], ◌∷◌, ◌++◌, map, length, take, drop, option_to_list}
 use Rattle.names.specs.declared.error.ParseError.{ParseError}
+use Rattle.names.specs.declared.error.ErrorCode.{ErrorCode}
 use Rattle.names.specs.declared.error.ErrorCode.TheVariants.{MissingSemicolonAfterCharacterReference, UnknownNamedCharacterReference}
 use Rattle.names.specs.declared.placed.Placed.{Placed}
 use Rattle.names.specs.Placed.{all, begins, past, is_alphanumeric, error, error_if}
@@ -9,6 +10,7 @@ use Rattle.charref.specs.declared.last.Last.TheVariants.{Alphanumeric, Semicolon
 use Rattle.charref.specs.declared.reference.Characters.{Characters}
 use Rattle.charref.specs.declared.reference.Characters.TheVariants.{One, Two}
 use Rattle.charref.specs.declared.reference.Reference.{Reference}
+use Rattle.charref.specs.Last.{is_letter_or_digit}
 use Rattle.charref.specs.Reference.{Entities, IsReference, numbered, number_fault}
 
 abbrev pub characters_of : Characters → List ℕ
@@ -31,17 +33,15 @@ pub record IsRead (table : Entities) (in_value : Bool) (text after : List Placed
       (record { text = amp ∷ take (length text - found.left) text; gives = characters_of found.characters; errors = errors_of found amp.at after })
 
 -- an `&` that is text because no key matches
+abbrev pub unknown_fault : Last → Option ErrorCode
+unknown_fault Alphanumeric = None
+unknown_fault Semicolon = Some UnknownNamedCharacterReference
+unknown_fault Equals = None
+unknown_fault Other = None
+
 abbrev pub unknown_of : ℕ → Last → Reference
-unknown_of left Alphanumeric = record { characters = One 38; left = left; missing_semicolon = false; fault = None; is_ambiguous = true }
-unknown_of left Semicolon = record {
-  characters = One 38;
-  left = left;
-  missing_semicolon = false;
-  fault = Some UnknownNamedCharacterReference;
-  is_ambiguous = false;
-}
-unknown_of left Equals = record { characters = One 38; left = left; missing_semicolon = false; fault = None; is_ambiguous = false }
-unknown_of left Other = record { characters = One 38; left = left; missing_semicolon = false; fault = None; is_ambiguous = false }
+unknown_of left last =
+    record { characters = One 38; left = left; missing_semicolon = false; fault = unknown_fault last; is_ambiguous = is_letter_or_digit last }
 
 -- a numeric reference
 abbrev pub number_reference : ℕ → ℕ → Bool → Reference

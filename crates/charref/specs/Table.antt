@@ -124,8 +124,8 @@ abbrev pub is_as_long : ℕ → Option Entry → Bool
 is_as_long depth None = false
 is_as_long depth (Some e) = nat_eq (length e.key) depth
 
-abbrev pub is_whole : Entities → Search → Bool
-is_whole table search = is_as_long search.depth (best_entry table search.best)
+abbrev pub has_read_key : Entities → Search → Bool
+has_read_key table search = is_as_long search.depth (best_entry table search.best)
 
 -- No key of the table begins with these bytes.
 pub record HasNone (table : Entities) (bytes : List ℕ) : Type 0 where

@@ -1,7 +1,7 @@
 //! Looking up a key, byte by byte.
 
 ghost use Rattle.std.specs.Prelude.{◌≡◌, ◌↔◌, ℕ, ◌+◌, ◌-◌, ◌≤◌, ◌<◌, [], ◌∷◌, ◌++◌, ◌||◌, ◌==◌, List, true, false, None, length, IsTrue, IsNone, IfSome};
-ghost use Rattle.charref.specs.Vocabulary.{is_alphanumeric, longest, code_at, best_entry, IsSortedTable, IsRange, IsRising, IsParted, IsIndex, IsOver, EntryGoesOn, HasNone, SearchHasRead, is_whole, is_search_within};
+ghost use Rattle.charref.specs.Vocabulary.{is_alphanumeric, longest, code_at, best_entry, IsSortedTable, IsRange, IsRising, IsParted, IsIndex, IsOver, EntryGoesOn, HasNone, SearchHasRead, has_read_key, is_search_within};
 
 use crate::flat::Flat;
 
@@ -188,9 +188,9 @@ impl Search {
     }
 
     /// Whether the bytes read are a key.
-    pub(crate) fn is_whole(&self, flat: &Flat) -> bool
+    pub(crate) fn has_read_key(&self, flat: &Flat) -> bool
         requires within { IfSome self.now.best (λ k. k < length flat.now) }
-        ensures { result ≡ is_whole flat.now self.now }
+        ensures { result ≡ has_read_key flat.now self.now }
     {
         match self.best {
             Some(best) => flat.key(best).len() == self.depth,

@@ -1,7 +1,7 @@
 //! The steps of a walk.
 
 ghost use Rattle.std.specs.Prelude.{◌≡◌, ◌+◌, [], ◌∷◌, ◌++◌, Bool, true, false, ◌&&◌, ℕ, List, length, Some, IfSome, IsSome, IsNone, MatchOption, ◌<◌, ◌≤◌};
-ghost use Rattle.charref.specs.Vocabulary.{Placed, all, is_empty, is_alphanumeric, Entities, IsTable, longest, ends_in_semicolon, best_entry, is_search_within, is_whole, SearchHasRead, HasNone, key_bytes, is_number, IsHeldReference, IsSign, last_of, is_letter_or_digit, IsSettled, IsRead, unknown_of, number_reference, WalkHasTaken, TakesCharacter, NextIs, LeavesLast, StaysNumber, is_next_within};
+ghost use Rattle.charref.specs.Vocabulary.{Placed, all, is_empty, is_alphanumeric, Entities, IsTable, longest, ends_in_semicolon, best_entry, is_search_within, has_read_key, SearchHasRead, HasNone, key_bytes, is_number, IsHeldReference, IsSign, last_of, is_letter_or_digit, IsSettled, IsRead, unknown_of, number_reference, WalkHasTaken, TakesCharacter, NextIs, LeavesLast, StaysNumber, is_next_within};
 
 use crate::flat::Flat;
 use crate::last::{Last, is_kept};
@@ -240,9 +240,9 @@ fn after_digits(base: Base, value: u32, ch: char) -> Next
 #[inline(always)]
 fn waits(in_value: bool, last: Last, search: Search, flat: &Flat) -> bool
     requires { IfSome search.best (λ k. k < length flat.now) }
-    ensures { result ≡ (in_value && is_letter_or_digit last && is_whole flat.now search) }
+    ensures { result ≡ (in_value && is_letter_or_digit last && has_read_key flat.now search) }
 {
-    in_value && last.is_alphanumeric() && search.is_whole(flat)
+    in_value && last.is_alphanumeric() && search.has_read_key(flat)
 }
 
 /// The look-up after one more character, if some key may begin with it: right after the `&`, by the table's index.

@@ -1,14 +1,14 @@
 use Rattle.charref.proofs.Names.{◌≡◌, [], ◌∷◌, ◌++◌, ◌+◌, ◌-◌, ◌≤◌, true≢false, false, length, get_or, refl, sym, ap, ◌∙◌, subst, arith, is_ascii, IsTable, IsOpenKeyOf, HasNone, key_bytes, last_of}
 use Rattle.charref.proofs.AtOnce.{key_settles_before, none_unmarked}
 use Rattle.charref.proofs.Extending.{best_before, settled_before, count_read}
-use Rattle.charref.proofs.Telling.{some_key}
+use Rattle.charref.proofs.Naming.{some_key}
 use Rattle.charref.proofs.at_once.settled_by_key.Goals as goal
 
 pub overflow_sub-count : goal.overflow_sub-count
 overflow_sub-count c =
     let key = c.in_ok-key.key.now in
     let has : IsOpenKeyOf c.table.inside.flat c.args.bytes.now key = c.in_ok-key.ensures in
-    let some : 1 ≤ length has.is.read.entry.key = some_key c.table.inside.flat key.search.low has.is.read.entry c.table.invariant.0.sorted.is_table has.is.read.stands in
+    let some : 2 ≤ length has.is.read.entry.key = some_key c.table.inside.flat key.search.low has.is.read.entry c.table.invariant.0.sorted.is_table has.is.read.stands in
     let depth : key.search.depth ≡ length has.is.read.entry.key = has.is.read.read.depth in
     omega arith
 

@@ -1,13 +1,13 @@
 use Rattle.charref.proofs.Names.{◌≡◌, ◌-◌, ◌≤◌, length, slice_get, Some, sym, ap, ◌∙◌, subst, arith, some_same, Entry, IsTable}
 use Rattle.charref.proofs.AtOnce.{key_settles}
-use Rattle.charref.proofs.Telling.{some_key}
+use Rattle.charref.proofs.Naming.{some_key}
 use Rattle.charref.proofs.at_once.whole_key.Goals as goal
 
 pub overflow_sub-result : goal.overflow_sub-result
 overflow_sub-result c =
     let e : Entry = c.key.ensures.0 in
     let is_table : IsTable c.args.table.now = subst IsTable c.table.view_is c.table.invariant.0.sorted.is_table in
-    let some : 1 ≤ length e.key = some_key c.args.table.now c.args.index e is_table (ap (λ t. slice_get t c.args.index) (sym c.table.view_is) ∙ c.key.ensures.1) in
+    let some : 2 ≤ length e.key = some_key c.args.table.now c.args.index e is_table (ap (λ t. slice_get t c.args.index) (sym c.table.view_is) ∙ c.key.ensures.1) in
     let size : length c.key.result.now ≡ length e.key = ap length c.key.ensures.2 in
     omega arith
 

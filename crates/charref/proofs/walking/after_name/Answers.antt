@@ -1,5 +1,5 @@
-use Rattle.charref.proofs.Names.{arith, nat_tests, nat_eq, NumberSign, IsRead, ◌≡◌, [], ◌∷◌, ◌++◌, true, false, true≢false, ◌&&◌, refl, sym, ap, ◌∙◌, subst, ◌≤◌, length, and_parts, all-one, characters, is_empty, is_alphanumeric, Entities, IsTable, is_whole, SearchHasRead, HasNone, IsOver, EntryGoesOn, key_bytes, in_name, last_of, is_letter_or_digit, NextIs}
-use Rattle.charref.proofs.Extending.{key_bytes-more, front_of, best_before, settled_before, best_after, settled_after, letter_of, nothing_read, something_read, count_read}
+use Rattle.charref.proofs.Names.{arith, nat_tests, nat_eq, NumberSign, IsRead, ◌≡◌, [], ◌∷◌, ◌++◌, true, false, true≢false, ◌&&◌, refl, sym, ap, ◌∙◌, subst, ◌≤◌, length, and_parts, all-one, characters, is_empty, is_alphanumeric, Entities, IsTable, has_read_key, SearchHasRead, HasNone, IsOver, key_bytes, in_name, last_of, is_letter_or_digit, NextIs}
+use Rattle.charref.proofs.Extending.{key_bytes-more, held_longer, best_before, settled_before, best_after, settled_after, letter_of, nothing_read, something_read, count_read}
 use Rattle.charref.proofs.Indexing.{is_within}
 use Rattle.charref.specs.declared.walking.Next.TheVariants.{Goes}
 use Rattle.charref.proofs.Numbers.{one_number_sign, alone_before}
@@ -31,45 +31,34 @@ returns-in_default-clause-next c = λ text p read run is after.
 
 pub returns-then-goes_on-clause-next : goal.returns-then-goes_on-clause-next
 returns-then-goes_on-clause-next c = λ text p read run is.
-    let table : Entities = c.args.table.now in
-    let other-is : c.table.inside.flat ≡ table = c.table.view_is in
-    let is_table : IsTable table = subst IsTable c.table.view_is c.table.invariant.0.sorted.is_table in
-    let next : SearchHasRead c.in-Some.next table (key_bytes text ++ c.args.ch ∷ []) = c.in-Some.ensures.read (characters text) read in
-    let bytes-are : key_bytes text ++ c.args.ch ∷ [] ≡ key_bytes (text ++ p ∷ []) = ap (λ x. key_bytes text ++ x ∷ []) (sym is) ∙ sym (key_bytes-more text p) in
-    let next' : SearchHasRead c.in-Some.next table (key_bytes (text ++ p ∷ [])) = subst (λ bs. SearchHasRead c.in-Some.next table bs) bytes-are next in
-    let goes : EntryGoesOn c.table.inside.flat (key_bytes (text ++ p ∷ [])) = c.goes_on.ensures.open (key_bytes (text ++ p ∷ [])) (subst (λ t. SearchHasRead c.in-Some.next t (key_bytes (text ++ p ∷ []))) (sym other-is) next') c.if-goes_on.true in
-    let goes' : EntryGoesOn table (key_bytes (text ++ p ∷ [])) = subst (λ t. EntryGoesOn t (key_bytes (text ++ p ∷ []))) other-is goes in
-    in_name c.in-Some.next (text ++ p ∷ []) next' (front_of table (text ++ p ∷ []) is_table goes') (λ data-in some. goes')
+    held_longer c.args.table.now c.args.in_value c.in-Some.next text p c.args.ch (subst IsTable c.table.view_is c.table.invariant.0.sorted.is_table) is (c.in-Some.ensures.read (characters text) read)
+    (λ bytes now. (rw c.table.view_is at c.goes_on.ensures.open) bytes now c.if-goes_on.true)
 
 pub returns-then-waits-clause-next : goal.returns-then-waits-clause-next
 returns-then-waits-clause-next c = λ text p read run is.
     let table : Entities = c.args.table.now in
-    let next : SearchHasRead c.in-Some.next table (key_bytes text ++ c.args.ch ∷ []) = c.in-Some.ensures.read (characters text) read in
-    let bytes-are : key_bytes text ++ c.args.ch ∷ [] ≡ key_bytes (text ++ p ∷ []) = ap (λ x. key_bytes text ++ x ∷ []) (sym is) ∙ sym (key_bytes-more text p) in
-    let next' : SearchHasRead c.in-Some.next table (key_bytes (text ++ p ∷ [])) = subst (λ bs. SearchHasRead c.in-Some.next table bs) bytes-are next in
-    let parts : ((c.args.in_value && is_letter_or_digit c.of-last.result) ≡ true) × (is_whole c.table.inside.flat c.in-Some.next ≡ true) = and_parts _ _ (sym c.waits.ensures ∙ c.if-waits.true) in
+    let next : SearchHasRead c.in-Some.next table (key_bytes (text ++ p ∷ [])) =
+    subst (SearchHasRead c.in-Some.next table) (ap (λ x. key_bytes text ++ x ∷ []) (sym is) ∙ sym (key_bytes-more text p)) (c.in-Some.ensures.read (characters text) read) in
+    let parts : ((c.args.in_value && is_letter_or_digit c.of-last.result) ≡ true) × (has_read_key c.table.inside.flat c.in-Some.next ≡ true) = and_parts _ _ (sym c.waits.ensures ∙ c.if-waits.true) in
     let more : (c.args.in_value ≡ true) × (is_letter_or_digit c.of-last.result ≡ true) = and_parts _ _ parts.0 in
     let letter : is_alphanumeric p.ch ≡ true = ap is_alphanumeric is ∙ sym (letter_of c.args.ch) ∙ ap is_letter_or_digit (sym c.of-last.ensures) ∙ more.1 in
-    in_name c.in-Some.next (text ++ p ∷ []) next' (all-one is_alphanumeric text p run letter) (λ outside some. absurd (true≢false (sym more.0 ∙ outside)))
+    in_name c.in-Some.next (text ++ p ∷ []) next (all-one is_alphanumeric text p run letter) (λ outside some. absurd (true≢false (sym more.0 ∙ outside)))
 
 pub returns-clause-next : goal.returns-clause-next
 returns-clause-next c = λ text p read run is after.
     let table : Entities = c.args.table.now in
-    let other-is : c.table.inside.flat ≡ table = c.table.view_is in
+    let next : SearchHasRead c.in-Some.next table (key_bytes text ++ p.ch ∷ []) = subst (λ x. SearchHasRead c.in-Some.next table (key_bytes text ++ x ∷ [])) (sym is) (c.in-Some.ensures.read (characters text) read) in
+    let over : IsOver table (key_bytes text ++ p.ch ∷ []) = (rw c.table.view_is at c.goes_on.ensures.over) _ next c.if-goes_on.false in
     let is_table : IsTable table = subst IsTable c.table.view_is c.table.invariant.0.sorted.is_table in
-    let next : SearchHasRead c.in-Some.next table (key_bytes text ++ c.args.ch ∷ []) = c.in-Some.ensures.read (characters text) read in
-    let next' : SearchHasRead c.in-Some.next table (key_bytes text ++ p.ch ∷ []) = subst (λ x. SearchHasRead c.in-Some.next table (key_bytes text ++ x ∷ [])) (sym is) next in
-    let over : IsOver c.table.inside.flat (key_bytes text ++ p.ch ∷ []) = c.goes_on.ensures.over (key_bytes text ++ p.ch ∷ []) (subst (λ t. SearchHasRead c.in-Some.next t (key_bytes text ++ p.ch ∷ [])) (sym other-is) next') c.if-goes_on.false in
-    let over' : IsOver table (key_bytes text ++ p.ch ∷ []) = subst (λ t. IsOver t (key_bytes text ++ p.ch ∷ [])) other-is over in
     let letter : is_letter_or_digit c.of-last.result ≡ is_alphanumeric p.ch = ap is_letter_or_digit c.of-last.ensures ∙ letter_of c.args.ch ∙ ap is_alphanumeric (sym is) in
-    let waits : (c.args.in_value && is_alphanumeric p.ch && is_whole table c.in-Some.next) ≡ false =
-    ap (λ b. c.args.in_value && b && is_whole table c.in-Some.next) (sym letter) ∙ ap (λ t. c.args.in_value && is_letter_or_digit c.of-last.result && is_whole t c.in-Some.next) (sym other-is) ∙ sym c.waits.ensures ∙ c.if-waits.false in
+    let waits : (c.args.in_value && is_alphanumeric p.ch && has_read_key table c.in-Some.next) ≡ false =
+    ap (λ b. c.args.in_value && b && has_read_key table c.in-Some.next) (sym letter) ∙ ap (λ t. c.args.in_value && is_letter_or_digit c.of-last.result && has_read_key t c.in-Some.next) (sym c.table.view_is) ∙ sym c.waits.ensures ∙ c.if-waits.false in
     let first : is_empty text ≡ true → is_alphanumeric p.ch ≡ true = something_read text (is_alphanumeric p.ch ≡ true) (λ one. elim c.else-search-eq1.branch [
       | else-search-eq1-via-then-search-eq1+else-not-is_alphanumeric w ↦ ap is_alphanumeric is ∙ sym (letter_of c.args.ch) ∙ ap is_letter_or_digit (sym c.of-last.ensures) ∙ sym w.is_alphanumeric.ensures ∙ w.if-not-is_alphanumeric.false
       | else-search-eq1-via-else-search-eq1 w ↦ absurd (w.if-search-eq1.false (read.depth ∙ one))
     ]) in
     c.decided-2.ensures text p after run first (count_read text p c.args.search.depth read.depth) (c.of-last.ensures ∙ ap last_of (sym is))
-    (best_after table c.args.in_value text after p is_table c.in-Some.next next' over' waits) (settled_after table c.args.in_value text after p is_table c.in-Some.next next' over' waits)
+    (best_after table c.args.in_value text after p is_table c.in-Some.next next over waits) (settled_after table c.args.in_value text after p is_table c.in-Some.next next over waits)
 
 pub decided-requires : goal.decided-requires
 decided-requires c = (is_within c.args.search _ c.requires).2
