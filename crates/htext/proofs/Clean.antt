@@ -1,9 +1,8 @@
 -- Where a text is cut by the count of bytes that pass a test.
-use Rattle.htext.proofs.Names.{◌≡◌, ℕ, ◌<◌, ◌≤◌, ◌+◌, ◌-◌, zero, suc, Bool, true, false, not, cond, List, [], ◌∷◌, ◌++◌, length, take, drop, sym, refl, ap, ◌∙◌, subst, arith, inl, inr, encode_utf8_all, list_all, prefix_len, and_parts, and_from, cases_lt, nat_tests, take_at, drop_at, take-append-drop, length-append, length-drop, drop-drop, append-nil, take-add, chars-append, chars_past_char, length-encode, len_utf8, list_all-append, encodes-chars, chars-nil, encode_ascii, IsUtf8-nil, scalars, chars, IsUtf8, encode_utf8, is_plain_byte, is_plain_character, is_clean, is_of_clean_bytes, is_clean_byte, is_text_byte, is_inner_byte, IsCut, IsCleanFront}
-use Rattle.std.proofs.lemmas.Bool.{not-true}
+use Rattle.htext.proofs.Names.{◌≡◌, ℕ, ◌≤◌, ◌+◌, ◌-◌, zero, suc, Bool, true, false, cond, List, [], ◌∷◌, ◌++◌, length, take, drop, sym, refl, ap, ◌∙◌, subst, arith, inl, inr, encode_utf8_all, list_all, prefix_len, and_parts, and_from, cases_lt, nat_tests, take_at, drop_at, take-append-drop, length-append, length-drop, drop-drop, append-nil, take-add, chars-append, chars_past_char, length-encode, len_utf8, list_all-append, chars-nil, encode_ascii, IsUtf8-nil, scalars, chars, IsUtf8, encode_utf8, is_plain_character, is_clean, is_of_clean_bytes, is_clean_byte, is_text_byte, IsCut, IsCleanFront}
 use Rattle.std.proofs.lemmas.Str.{chars-encodes, encodes-append}
-use Rattle.htext.proofs.Plain.{BeginsOutside, of_clean_bytes, clean_bytes, other_bytes, long_bytes, begins_anew, plain_of_text, plain_of_inner}
-use Rattle.htext.proofs.Runs.{counted, plain_bytes}
+use Rattle.htext.proofs.Plain.{BeginsOutside, of_clean_bytes, clean_bytes, other_bytes, long_bytes, plain_of_text}
+use Rattle.htext.proofs.Runs.{counted}
 use Rattle.names.proofs.Words.{all_weaker}
 use Rattle.htext.proofs.Wide.{chars_cut, cut_more, first_cut}
 
@@ -139,31 +138,9 @@ module _ (test : ℕ → Bool) (of_long : (byte : ℕ) → 128 ≤ byte → test
   pub front_of_test : (bytes : List ℕ) → IsUtf8 bytes → IsCut (prefix_len test bytes) bytes × (list_all test (chars (take (prefix_len test bytes) bytes)) ≡ true)
   front_of_test bytes u = front test test all_bytes first_fails bytes u
 
-inner_bytes : (c : ℕ) → is_inner_byte c ≡ true → list_all is_inner_byte (encode_utf8 c) ≡ true
-inner_bytes c h = let one : c < 128 = grind (arith, nat_tests) in ap (list_all is_inner_byte) (encode_ascii c one) ∙ and_from _ _ h refl
-
-long_is_other : (byte : ℕ) → 128 ≤ byte → not (is_inner_byte byte) ≡ true
-long_is_other byte l = grind (arith, nat_tests)
-
-outer_bytes : (c : ℕ) → is_inner_byte c ≡ false → BeginsOutside is_inner_byte (encode_utf8 c)
-outer_bytes c h = elim (cases_lt c 128) [
-  | inl one ↦ (c, [], encode_ascii c one, h)
-  | inr above ↦ (
-      let (b, bs, is, _) = begins_anew c in
-      let first = and_parts _ (list_all (λ byte. not (is_inner_byte byte)) bs) (sym (ap (list_all (λ byte. not (is_inner_byte byte))) is) ∙ long_bytes (λ byte. not (is_inner_byte byte)) long_is_other c above) in
-      (b, bs, is, not-true _ first.0))
-]
-
 module _ (run : List ℕ) (utf8 : IsUtf8 run) (clean : list_all is_clean (chars run) ≡ true) where
   pub text_front : IsCut (prefix_len is_text_byte run) run × (list_all is_plain_character (chars (take (prefix_len is_text_byte run) run)) ≡ true)
   text_front =
       let n : ℕ = prefix_len is_text_byte run in
       let (cut, text) = front_of_test is_text_byte (λ byte l. grind (arith, l, nat_tests)) run utf8 in
       (cut, both_pass is_clean is_text_byte is_plain_character plain_of_text (chars (take n run)) (clean_rest n run cut clean).0 text)
-
-  pub inner_front : IsCut (prefix_len is_inner_byte run) run × (list_all is_plain_byte (take (prefix_len is_inner_byte run) run) ≡ true)
-  inner_front =
-      let n : ℕ = prefix_len is_inner_byte run in
-      let (cut, ascii) = front is_inner_byte is_inner_byte inner_bytes outer_bytes run utf8 in
-      let plain = both_pass is_clean is_inner_byte is_plain_byte plain_of_inner (chars (take n run)) (clean_rest n run cut clean).0 ascii in
-      (cut, subst (λ (l : List ℕ). list_all is_plain_byte l ≡ true) (sym (plain_bytes (chars (take n run)) plain) ∙ encodes-chars (take n run) cut.front) plain)

@@ -1,22 +1,13 @@
 -- Plain and clean characters, and the bytes of characters in UTF-8.
-use Rattle.htext.proofs.Names.{◌≡◌, ℕ, ◌<◌, ◌≤◌, ◌+◌, ◌/◌, ◌%◌, Bool, true, false, eqb, List, [], ◌∷◌, refl, arith, nat_le, list_all, nat_tests, encode_utf8, Bom, Whole, read_as, Character, read_items, is_plain_byte, is_plain_character, is_clean, is_of_clean_bytes, is_clean_byte, is_inner_byte, is_text_byte}
-use Rattle.std.specs.Prelude.{not, ◌&&◌, ◌||◌, ◌==◌}
-use Rattle.names.specs.Placed.{is_noncharacter}
-use Rattle.std.proofs.lemmas.Bool.{or_left}
+use Rattle.htext.proofs.Names.{◌≡◌, ℕ, ◌<◌, ◌≤◌, ◌+◌, ◌/◌, ◌%◌, Bool, true, false, eqb, List, [], ◌∷◌, refl, arith, list_all, nat_tests, encode_utf8, Bom, Whole, read_as, Character, read_items, is_plain_byte, is_plain_character, is_clean, is_of_clean_bytes, is_clean_byte, is_text_byte}
 use Rattle.htext.proofs.Beginnings.{BytesOf, takes_one, takes_two, takes_three, takes_four, bytes_of}
 
 -- a plain byte is ASCII, and a plain character
 pub plain_small : (x : ℕ) → is_plain_byte x ≡ true → x < 127
 plain_small x h = grind (arith, nat_tests)
 
-pub byte_plain : (x : ℕ) → is_plain_byte x ≡ true → is_plain_character x ≡ true
-byte_plain x h = or_left (is_plain_byte x) (nat_le 0xA0 x && not (is_noncharacter x || x == 0xFEFF)) h
-
 pub plain_of_text : (c : ℕ) → is_clean c ≡ true → is_text_byte c ≡ true → is_plain_character c ≡ true
 plain_of_text c h m = grind (arith, nat_tests)
-
-pub plain_of_inner : (c : ℕ) → is_clean c ≡ true → is_inner_byte c ≡ true → is_plain_byte c ≡ true
-plain_of_inner c h m = grind (arith, nat_tests)
 
 -- IN A TEXT
 

@@ -1,16 +1,13 @@
 -- Runs of plain bytes, each a character.
-use Rattle.htext.proofs.Names.{zero, ◌≡◌, ℕ, ◌<◌, ◌≤◌, ◌+◌, ◌-◌, suc, Bool, true, false, cond, List, [], ◌∷◌, ◌++◌, length, take, drop, sym, refl, ap, ◌∙◌, arith, encode_utf8_all, list_all, prefix_len, take-add, length-take-le, take-append-drop, list_all-append, and_parts, and_from, chars, IsUtf8, len_utf8, placed, is_plain_byte}
+use Rattle.htext.proofs.Names.{zero, ◌≡◌, ℕ, ◌<◌, ◌+◌, ◌-◌, suc, Bool, true, false, cond, List, [], ◌∷◌, ◌++◌, length, take, drop, sym, refl, ap, ◌∙◌, arith, encode_utf8_all, list_all, prefix_len, take-add, take-append-drop, list_all-append, and_parts, and_from, chars, IsUtf8, len_utf8, placed, is_plain_byte}
 use Rattle.std.specs.List.{slice_range}
-use Rattle.std.proofs.lemmas.Str.{len_utf8_ascii, chars-IsAscii, encodes-IsAscii}
+use Rattle.std.proofs.lemmas.Str.{chars-IsAscii, encodes-IsAscii}
 use Rattle.std.specs.Str.{IsAscii}
 use Rattle.names.specs.Placed.{all}
 use Rattle.htext.proofs.Parts.{placed-append as placed_text}
 use Rattle.htext.proofs.Plain.{plain_small}
 -- under the name by which the crates above cite it
 pub use Rattle.std.proofs.Math.Seq.{take-add as take_more}
-
-pub one_long : (x : ℕ) → is_plain_byte x ≡ true → len_utf8 x ≡ 1
-one_long x h = let small : x < 127 = plain_small x h in len_utf8_ascii x (omega arith)
 
 -- the bytes and the characters of a run
 plain_ascii : (xs : List ℕ) → list_all is_plain_byte xs ≡ true → IsAscii xs
@@ -49,15 +46,3 @@ plain_parts n xs h = and_parts _ _ (sym (list_all-append is_plain_byte (take n x
 
 pub plain_take : (n : ℕ) (xs : List ℕ) → list_all is_plain_byte xs ≡ true → list_all is_plain_byte (take n xs) ≡ true
 plain_take n xs h = (plain_parts n xs h).0
-
-pub plain_drop : (n : ℕ) (xs : List ℕ) → list_all is_plain_byte xs ≡ true → list_all is_plain_byte (drop n xs) ≡ true
-plain_drop n xs h = (plain_parts n xs h).1
-
--- a run that goes on with the part between two places
-pub placed_part : (at i n : ℕ) (run : List ℕ) → list_all is_plain_byte run ≡ true → i ≤ length run → placed at (take (i + n) run) ≡ placed at (take i run) ++ placed (at + i) (take n (drop i run))
-placed_part at i n run h l =
-    ap (placed at) (take-add i n run) ∙ placed-append at (take i run) (take n (drop i run)) (plain_take i run h) ∙ ap (λ (k : ℕ). placed at (take i run) ++ placed (at + k) (take n (drop i run))) (length-take-le i run l)
-
-pub placed_rest : (at i : ℕ) (run : List ℕ) → list_all is_plain_byte run ≡ true → i ≤ length run → placed at run ≡ placed at (take i run) ++ placed (at + i) (drop i run)
-placed_rest at i run h l =
-    ap (placed at) (sym (take-append-drop i run)) ∙ placed-append at (take i run) (drop i run) (plain_take i run h) ∙ ap (λ (k : ℕ). placed at (take i run) ++ placed (at + k) (drop i run)) (length-take-le i run l)

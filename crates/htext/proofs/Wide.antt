@@ -1,21 +1,12 @@
 -- Runs of characters in a text, by its bytes.
-use Rattle.htext.proofs.Names.{◌≡◌, ℕ, ◌≤◌, ◌+◌, true, false, eqb, List, [], ◌∷◌, ◌++◌, map, length, take, drop, get_or, sym, refl, ap, ◌∙◌, subst, arith, append-nil, Result, Ok, Err, encode_utf8_all, list_all, nat_tests, and_parts, eqb-true, take_at, drop_at, take-append-drop, length-append, length-take-le, length-drop, drop-drop, nil_from_length, take-add, chars-append, encodes-chars, IsUtf8-append, IsUtf8-encode, IsUtf8-drop, length-encode, chars_past_char, chars-nil, scalars, chars, IsUtf8, IsScalar, encode_utf8, len_utf8, placed, Hands, Continues, Placed, Refusal, Bom, Whole, normalized, ends_in_return, CharItem, Character, items, is_plain_byte, is_plain_character, is_clean, run_items, IsCut, IsCleanFront}
+use Rattle.htext.proofs.Names.{◌≡◌, ℕ, ◌≤◌, ◌+◌, true, false, eqb, List, [], ◌∷◌, ◌++◌, map, length, take, drop, get_or, sym, refl, ap, ◌∙◌, subst, arith, append-nil, Result, Ok, Err, encode_utf8_all, list_all, nat_tests, and_parts, eqb-true, take_at, drop_at, take-append-drop, length-append, length-take-le, length-drop, drop-drop, nil_from_length, take-add, chars-append, encodes-chars, IsUtf8-append, IsUtf8-encode, IsUtf8-drop, length-encode, chars_past_char, chars-nil, scalars, chars, IsUtf8, IsScalar, encode_utf8, len_utf8, placed, Hands, Continues, Placed, Refusal, Bom, Whole, normalized, ends_in_return, CharItem, Character, items, is_clean, run_items, IsCut, IsCleanFront}
 use Rattle.std.proofs.Math.Seq.{get_or-append_seam}
 use Rattle.std.proofs.lemmas.Str.{scalars-chars, IsUtf8-take}
 use Rattle.std.specs.Str.{IsCharBoundary}
 use Rattle.names.proofs.Handing.{Continues-more}
 use Rattle.htext.proofs.Handing.{Hands-front}
 use Rattle.htext.proofs.Parts.{placed-append}
-use Rattle.names.proofs.Words.{all_weaker}
-use Rattle.htext.proofs.Plain.{byte_plain, no_return, as_it_came, item_alone, begins_anew}
-use Rattle.htext.proofs.Runs.{plain_chars}
-
--- a run of plain bytes as one of plain characters
-pub bytes_plain : (xs : List ℕ) → list_all is_plain_byte xs ≡ true → list_all is_plain_character xs ≡ true
-bytes_plain = all_weaker is_plain_byte is_plain_character byte_plain
-
-pub run_plain : (xs : List ℕ) → list_all is_plain_byte xs ≡ true → IsUtf8 xs → list_all is_plain_character (chars xs) ≡ true
-run_plain xs h u = ap (list_all is_plain_character) (plain_chars xs h u) ∙ bytes_plain xs h
+use Rattle.htext.proofs.Plain.{no_return, as_it_came, item_alone, begins_anew}
 
 -- WHAT STANDS IN A TEXT
 

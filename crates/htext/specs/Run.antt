@@ -1,13 +1,12 @@
 -- Runs of characters that are in a text as they came.
 use Rattle.std.specs.Prelude.{◌≡◌, ℕ, ◌≤◌, Bool, true, not, ◌&&◌, ◌||◌, ◌==◌, nat_le, bit_and, ◌/◌, List, length, get_or, map, take, drop}
 use Rattle.std.specs.List.{list_all}
-use Rattle.std.specs.Char.{is_ascii}
 use Rattle.std.specs.Str.{chars, IsUtf8}
 use Rattle.names.specs.Placed.{placed, is_alphanumeric, is_noncharacter, is_quote, is_space}
 use Rattle.htext.specs.Items.{CharItem, Character}
 use Rattle.htext.specs.declared.run.Halves.{Halves}
 use Rattle.htext.specs.declared.run.RunBytes.{RunBytes}
-use Rattle.htext.specs.declared.run.RunBytes.TheVariants.{Inner, Text, Clean, Alphanumeric, Word, Unquoted, Quoted}
+use Rattle.htext.specs.declared.run.RunBytes.TheVariants.{Text, Clean, Alphanumeric, Word, Unquoted, Quoted}
 
 -- a byte that is a character by itself, is in the text as it came but for an LF after a CR, raises no error, and is neither `<` nor `&`
 abbrev pub is_plain_byte : ℕ → Bool
@@ -33,10 +32,6 @@ is_clean_byte byte = is_plain_byte byte || byte == 60 || byte == 38 || (nat_le 0
 abbrev pub is_text_byte : ℕ → Bool
 is_text_byte byte = not (byte == 60 || byte == 38)
 
--- an ASCII byte that is neither `<`, `&` nor `>`
-abbrev pub is_inner_byte : ℕ → Bool
-is_inner_byte byte = is_ascii byte && is_text_byte byte && not (byte == 62)
-
 -- a small letter, a digit, `-`, `.`, `:` or `_`
 abbrev pub is_word_byte : ℕ → Bool
 is_word_byte byte = (nat_le 97 byte && nat_le byte 122) || (nat_le 48 byte && nat_le byte 58) || byte == 45 || byte == 46 || byte == 95
@@ -51,7 +46,6 @@ is_quoted_byte mark byte = not (byte == mark || byte == 38)
 
 -- the bytes of a run of each kind
 abbrev pub is_run_byte : RunBytes → ℕ → Bool
-is_run_byte Inner byte = is_inner_byte byte
 is_run_byte Text byte = is_text_byte byte
 is_run_byte Clean byte = is_clean_byte byte
 is_run_byte Alphanumeric byte = is_alphanumeric byte

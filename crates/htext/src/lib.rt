@@ -10,7 +10,7 @@ pub mod run;
 pub mod sink;
 
 pub use decoder::{Decoder, MAX_INPUT};
-pub use run::{alphanumeric_run, inner_run, quoted_run, text_run, unquoted_run, word_run};
+pub use run::{alphanumeric_run, quoted_run, text_run, unquoted_run, word_run};
 pub use sink::CharSink;
 
 /// What becomes of a byte order mark (EF BB BF) at the front of an input.

@@ -5,15 +5,13 @@ ghost use Rattle.std.specs.Int.{is_in_range};
 ghost use Rattle.std.specs.List.{prefix_len};
 ghost use Rattle.std.specs.Simd.Lanes.{mask_l};
 ghost use Rattle.std.specs.Str.Lossy.{second_byte_min, second_byte_max};
-ghost use Rattle.htext.specs.Vocabulary.{is_alphanumeric, AreBad, IsBadAlone, is_inner_byte, is_clean_byte, is_run_byte, is_not_of, is_quoted_byte, is_text_byte, is_word_byte, is_unquoted_byte, shares_no_bit};
+ghost use Rattle.htext.specs.Vocabulary.{is_alphanumeric, AreBad, IsBadAlone, is_clean_byte, is_run_byte, is_not_of, is_quoted_byte, is_text_byte, is_word_byte, is_unquoted_byte, shares_no_bit};
 
 use std::simd::prelude::*;
 
 /// Which bytes make up a run.
 #[derive(Clone, Copy)]
 pub(crate) enum RunBytes {
-    /// All of ASCII but `<`, `>` and `&`.
-    Inner,
     /// All but `<` and `&`.
     Text,
     /// Those of which most clean characters are (`clean_bytes` says which).
@@ -64,14 +62,6 @@ const UNQUOTED: Halves = Halves {
     ],
     high: [1, 16, 2, 4, 16, 16, 8, 16, 16, 16, 16, 16, 16, 16, 16, 16],
 };
-
-/// Counts the bytes before the first `<`, `>`, `&` or byte of a character that is not ASCII: inside a tag, before what may end it.
-#[inline(always)]
-pub fn inner_run(bytes: &[u8]) -> usize
-    ensures { result ≡ prefix_len is_inner_byte bytes.now }
-{
-    run(RunBytes::Inner, bytes)
-}
 
 /// Counts the bytes before the first `<` or `&`.
 #[inline(always)]
@@ -231,9 +221,6 @@ fn stops(kind: RunBytes, bytes: u8x16) -> u64
 {
     let marks = bytes.simd_eq(u8x16::splat(b'<')) | bytes.simd_eq(u8x16::splat(b'&'));
     match kind {
-        RunBytes::Inner => (marks
-            | bytes.simd_eq(u8x16::splat(b'>'))
-            | bytes.simd_ge(u8x16::splat(0x80))).to_bitmask(),
         RunBytes::Text => marks.to_bitmask(),
         RunBytes::Clean => outside(CLEAN, bytes),
         RunBytes::Alphanumeric => outside(ALPHANUMERIC, bytes),
@@ -261,7 +248,6 @@ fn is_in_run(kind: RunBytes, byte: u8) -> bool
     ensures { result ≡ is_run_byte kind byte }
 {
     match kind {
-        RunBytes::Inner => byte.is_ascii() && !matches!(byte, b'<' | b'&' | b'>'),
         RunBytes::Text => !matches!(byte, b'<' | b'&'),
         RunBytes::Clean => matches!(
             byte,

@@ -35,9 +35,9 @@ pub use Rattle.htag.specs.declared.kind.TagKind.{TagKind}
 pub use Rattle.htag.specs.declared.walk.TagWalk.{TagWalk}
 pub use Rattle.htext.proofs.Clean.{clean_rest, text_front, nothing_front, front_of_test}
 pub use Rattle.htext.proofs.Handing.{next_bad}
-pub use Rattle.htext.proofs.Runs.{front_of, all_placed, plain_take, plain_chars, plain_drop, counted, take_more, placed_part, placed_rest, one_long}
-pub use Rattle.htext.proofs.Wide.{cut_more, placed_cut, placed_more, bytes_plain, last_char, chars_cut, has_characters, cut_last, one_more, one_refused, none_left, no_characters, first_cut, first_char, run_plain}
-pub use Rattle.htext.specs.Run.{is_plain_byte, is_text_byte, IsCut, is_clean, is_plain_character, is_inner_byte}
+pub use Rattle.htext.proofs.Runs.{front_of, all_placed, plain_take, plain_chars, counted, take_more}
+pub use Rattle.htext.proofs.Wide.{cut_more, placed_cut, placed_more, last_char, chars_cut, has_characters, cut_last, one_more, one_refused, none_left, no_characters, first_cut, first_char}
+pub use Rattle.htext.specs.Run.{is_plain_byte, is_text_byte, IsCut, is_clean, is_plain_character}
 pub use Rattle.htext.specs.Text.{character_of}
 pub use Rattle.htoken.proofs.Results.{err_is}
 pub use Rattle.htoken.specs.Data.{is_declaration, IsDataSpan, character_span, less_span, character, bogus_declaration, tag, is_cdata, less_than_last, less_than_solidus_last, is_no_markup, less_than, nothing, comment, doctype, bogus_end_tag, bogus_question, bogus_cdata}

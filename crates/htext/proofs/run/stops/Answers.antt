@@ -1,8 +1,8 @@
-use Rattle.htext.proofs.Names.{refl, ◌≡◌, ◌∙◌, ℕ, Bool, true, false, not, eqb, List, bit_or, cond, length, map, replicate, arith, zip2_splat, zip2_splat_left, zip2_of_maps, zip2, is_not_of, shares_no_bit}
+use Rattle.htext.proofs.Names.{refl, ◌≡◌, ◌∙◌, ℕ, Bool, true, false, not, eqb, List, bit_or, cond, length, map, replicate, arith, zip2_splat, zip2_of_maps, zip2, is_not_of, shares_no_bit}
 use Rattle.std.proofs.Common.{leb}
 use Rattle.std.specs.Prelude.{◌||◌}
 use lib.Lanes.{top}
-use Rattle.htext.specs.declared.run.RunBytes.TheVariants.{Inner, Text, Clean, Alphanumeric, Word, Unquoted, Quoted}
+use Rattle.htext.specs.declared.run.RunBytes.TheVariants.{Text, Clean, Alphanumeric, Word, Unquoted, Quoted}
 use Rattle.htext.specs.declared.run.TheConstants.{CLEAN, ALPHANUMERIC, WORD, UNQUOTED}
 use Rattle.htext.proofs.Lanes.{agree, hit, masked, same_mask}
 use Rattle.htext.proofs.run.stops.Goals as goal
@@ -23,14 +23,6 @@ either true true = refl
 either true false = refl
 either false true = refl
 either false false = refl
-
-pub returns-in-Inner : goal.returns-in-Inner
-returns-in-Inner c =
-    let v = c.args.bytes in
-    let long = c.fits-bytes.0 in
-    let most = zip2_of_maps bit_or _ _ v (marks v long) (zip2_splat hit v 16 62 long) in
-    let all = zip2_of_maps bit_or _ _ v most (zip2_splat_left at_most 128 16 v long) in
-    rw c.in-Inner.is (masked (λ x. bit_or (bit_or (mark x) (hit x 62)) (at_most 128 x)) (is_not_of Inner) v _ (omega arith) c.fits-bytes.1 all (agree _ _ refl))
 
 pub returns-in-Text : goal.returns-in-Text
 returns-in-Text c =
