@@ -1,8 +1,7 @@
 -- Slots of a stack that change places, leave and come, in the words on what they hold.
-use Rattle.hopen.proofs.Names.{◌≡◌, ◌≢◌, ℕ, zero, suc, ◌+◌, ◌-◌, ◌<◌, ◌≤◌, Bool, List, [], ◌∷◌, ◌++◌, Option, Some, None, length, map, reverse, take, drop, insert, get_or, set, inl, inr, refl, sym, ◌∙◌, ap, arith, cases_eq, cases_lt, append_assoc, drop-drop, drop-set-lt, get_or-set_other, get_or-set_same, length-append, length-insert, length-map, length-reverse, length-set, length-take-le, map-id, reverse-append, set-get_or, set-set, set_split, take-append-drop, position, insert_nearest, exchanged, holds_one, last_place, last_place-le, opened_by, item_put_before, slots_of, somes, stack_of, EndsOpen, KeptNode, OpenNode}
+use Rattle.hopen.proofs.Names.{◌≡◌, ◌≢◌, ℕ, zero, suc, ◌+◌, ◌-◌, ◌<◌, ◌≤◌, Bool, List, [], ◌∷◌, ◌++◌, Option, Some, None, length, map, reverse, take, drop, insert, get_or, set, inl, inr, refl, sym, ◌∙◌, ap, arith, cases_eq, cases_lt, append_assoc, append_cancel_left, drop-drop, drop-set-lt, get_or-set_other, get_or-set_same, length-append, length-insert, length-map, length-reverse, length-set, length-take-le, map-id, reverse-append, set-get_or, set-set, set_split, position, insert_nearest, exchanged, holds_one, last_place, last_place-le, opened_by, item_put_before, slots_of, somes, stack_of, EndsOpen, KeptNode, OpenNode}
 use Rattle.hopen.proofs.Held.{some≢none}
 use Rattle.hopen.proofs.OpenLevels.{IsPlaced}
-use Rattle.hopen.proofs.SlotEdits.{length-gone}
 use Rattle.hopen.proofs.Somes.{put-somes, reverse-somes, somes-append}
 use Rattle.hopen.proofs.Swapped.{exchanged-apart, exchanged-length, exchanged-lower}
 
@@ -56,10 +55,6 @@ module _ {X : Type 0} where
       ∙ ap (λ l. l ++ reverse (take i zs)) (reverse-append (z ∷ []) (drop (suc i) zs))
       ∙ append_assoc (reverse (drop (suc i) zs)) (z ∷ []) (reverse (take i zs))
 
-  same-rest : (xs us vs : List X) → xs ++ us ≡ xs ++ vs → us ≡ vs
-  same-rest [] us vs e = e
-  same-rest (x ∷ xs) us vs e = same-rest xs us vs (ap (drop 1) e)
-
   -- what is not nearer than the place of one that is sought
   put-at : (s : X → Bool) (n : X) (xs : List X) (y : X) (us vs : List X) → last_place s (xs ++ y ∷ us) ≡ suc (length us)
       → item_put_before s n (xs ++ y ∷ vs) ≡ xs ++ n ∷ y ∷ vs
@@ -70,13 +65,6 @@ module _ {X : Type 0} where
   pub somes-set : (zs : List (Option X)) (i : ℕ) (z : Option X) → i < length zs
       → somes (reverse (set zs i z)) ≡ somes (reverse (drop (suc i) zs)) ++ somes (z ∷ reverse (take i zs))
   somes-set zs i z h = ap somes (reverse-set zs i z h) ∙ somes-append (reverse (drop (suc i) zs)) (z ∷ reverse (take i zs))
-
-  -- a node in a slot is one more than a hole
-  pub length-filled : (zs : List (Option X)) (i : ℕ) (x : X) → i < length zs
-      → length (somes (reverse (set zs i (Some x)))) ≡ suc (length (somes (reverse (set zs i None))))
-  length-filled zs i x h =
-      let live = some≢none x (get_or (set zs i (Some x)) i None) (get_or-set_same zs i (Some x) None h) in
-      omega (arith, length-gone (set zs i (Some x)) i live, ap (λ l. length (somes (reverse l))) (set-set zs i (Some x) None))
 
   -- one that left sank to the slot of the one that is sought, and a new one takes its place there
   module _ (s : X → Bool) (zs sunk : List (Option X)) (from to : ℕ) (x : X) (order : from < to) (within : to < length zs) (long : length sunk ≡ length zs)
@@ -102,7 +90,7 @@ module _ {X : Type 0} where
         let gap : somes (reverse (set sunk to None)) ≡ somes low ++ somes (reverse (take to sunk)) =
         somes-set sunk to None (omega arith) ∙ ap (λ l. somes (reverse l) ++ somes (reverse (take to sunk))) below in
         let same : somes (reverse (take to sunk)) ≡ somes (y ∷ high) =
-        same-rest (somes low) (somes (reverse (take to sunk))) (somes (y ∷ high)) (sym gap ∙ rest ∙ ap somes split ∙ somes-append low (y ∷ high)) in
+        append_cancel_left (somes low) (somes (reverse (take to sunk))) (somes (y ∷ high)) (sym gap ∙ rest ∙ ap somes split ∙ somes-append low (y ∷ high)) in
         somes-set sunk to (Some x) (omega arith) ∙ (λ t. somes (reverse (below t)) ++ x ∷ same t) ∙ sym put
 
 -- the last slot still is no hole
@@ -131,24 +119,6 @@ module _ {X : Type 0} (x : X) where
   last-live [] (suc i) h ends = absurd (omega arith)
   last-live (y ∷ ys) zero h ends = ends (length ys) refl
   last-live (y ∷ ys) (suc i) h ends = last-live ys i (omega arith) (λ k e. ends (suc k) (ap suc e))
-
-  pub length-more : (zs : List (Option X)) (i : ℕ) → length (somes (reverse (insert zs i (Some x)))) ≡ suc (length (somes (reverse zs)))
-  length-more zs i =
-      let front = take i zs in
-      let back = drop i zs in
-      let more = reverse-somes (insert zs i (Some x)) in
-      let all = ap somes (sym (take-append-drop i zs)) ∙ somes-append front back in
-      omega (
-        arith,
-        ap length more,
-        ap length (reverse-somes zs),
-        length-reverse (somes (insert zs i (Some x))),
-        length-reverse (somes zs),
-        ap length (somes-append front (Some x ∷ back)),
-        ap length all,
-        length-append (somes front) (x ∷ somes back),
-        length-append (somes front) (somes back),
-      )
 
 pub ends-insert : (ys : List (Option (OpenNode ℕ))) (i : ℕ) (x : OpenNode ℕ) → i ≤ length ys → EndsOpen ys → EndsOpen (insert ys i (Some x))
 ends-insert ys i x within ends = λ k many none.

@@ -1,10 +1,11 @@
 -- A node that is special in no set leaves, or gives way to one of its name.
-use Rattle.hopen.proofs.Names.{◌≡◌, ◌≢◌, ℕ, zero, suc, ◌+◌, ◌-◌, ◌<◌, ◌≤◌, eqb, eqb-zero-suc, cond, false, List, [], ◌∷◌, Option, Some, None, length, map, get_or, set, refl, sym, ◌∙◌, ap, arith, transport, get_or-set_same, get_or-set_other, get_or-map, length-map, length-set, map-set, map-set_same, IsAlone, IsLinked, KeepSets, LevelsStand, closing, closing_in, kept_kind_at, kept_kind, open_name, names_in, nearest_in, nearest_up, node_in, nodes_in, opened_by, open_of, same_name_of, same_node_of, sets_at, set_node, is_hole_kind, is_special, tag_of, Open, OpenNode, KeptNode, Kind, LastLevels, NameSet, SetNodes}
+use Rattle.hopen.proofs.Names.{◌≡◌, ◌≢◌, ℕ, suc, ◌+◌, ◌-◌, ◌<◌, ◌≤◌, false, List, Option, Some, None, length, map, get_or, set, refl, sym, ◌∙◌, ap, arith, transport, get_or-set_same, get_or-set_other, length-map, length-set, map-set, map-set_same, set-get_or, sum_by, sum_by-set, IsAlone, IsLinked, KeepSets, LevelsStand, closing, kept_kind_at, kept_kind, open_name, slot_names, nearest_in, nearest_up, open_node, slot_nodes, opened_by, open_of, same_name_of, same_node_of, sets_at, set_node, is_hole_kind, is_special, tag_of, Open, OpenNode, KeptNode, Kind, LastLevels, NameSet, SetNodes}
 use Rattle.hopen.specs.declared.kept.Kind.TheVariants as kind
 use Rattle.hopen.proofs.Held.{held, some≢none}
-use Rattle.hopen.proofs.Linked.{either, eqb-same, eqb-not}
+use Rattle.hopen.proofs.Linked.{either}
 use Rattle.hopen.proofs.NearestUp.{nearest-neutral, nearest-plain}
-use Rattle.hopen.proofs.Swapped.{held-none, linked-fresh, linked-left, walk-in}
+use Rattle.hopen.proofs.Projected.{node-at, opened-at, part-at}
+use Rattle.hopen.proofs.Swapped.{left-alone, linked-fresh, walk-in}
 
 -- what each slot keeps stays where a node of no set changes
 pub sets-neutral : (ys : List (Option (OpenNode ℕ))) (sets : List SetNodes) (i : ℕ) (x : OpenNode ℕ) (z : Option (OpenNode ℕ)) → i < length ys
@@ -16,12 +17,6 @@ sets-neutral ys sets i x z within here plain neutral k s m h live =
     ∙ sym (nearest-neutral s ys (set ys i z) i (λ j ne. get_or-set_other ys i j z None ne) (λ a. ap (λ o. nearest_in s o a) here ∙ nearest-plain s x a plain)
     (λ a. ap (λ o. nearest_in s o a) (get_or-set_same ys i z None within) ∙ neutral s a) (suc m))
 
--- one fewer must be closed
-closing-left : (ks : List Kind) (i : ℕ) (k : Kind) → i < length ks → k ≡ get_or ks i k → closing_in (set ks i kind.Hole) + closing k ≡ closing_in ks
-closing-left [] i k h e = absurd (omega arith)
-closing-left (j ∷ ks) zero k h e = omega (arith, ap closing e)
-closing-left (j ∷ ks) (suc i) k h e = omega (arith, closing-left ks i k (omega arith) e)
-
 module _ (last : LastLevels) (items : List KeptNode) (i : ℕ) (x : KeptNode) (s : LevelsStand last items) (within : i < length items) (is : x ≡ get_or items i x)
     (alone : IsAlone last x (suc i)) where
   abbrev pub ys : List (Option (OpenNode ℕ))
@@ -31,26 +26,27 @@ module _ (last : LastLevels) (items : List KeptNode) (i : ℕ) (x : KeptNode) (s
   many = length-map items opened_by
 
   here : get_or ys i None ≡ Some (open_of x.opened)
-  here = get_or-map opened_by items i x None within ∙ ap opened_by (sym is) ∙ held x alone.live
+  here = opened-at items i x within is alone.live
 
-  node-here : get_or (nodes_in ys) i 0 ≡ suc x.opened.node
-  node-here = get_or-map node_in ys i None 0 (omega (arith, many)) ∙ ap node_in here
+  node-here : get_or (slot_nodes ys) i 0 ≡ suc x.opened.node
+  node-here = node-at items i x within is alone.live
 
   same_node-here : get_or (map same_node_of items) i 0 ≡ 0
-  same_node-here = get_or-map same_node_of items i x 0 within ∙ ap same_node_of (sym is) ∙ alone.none_above
+  same_node-here = part-at same_node_of 0 items i x within is ∙ alone.none_above
 
-  long : length (map same_node_of items) ≡ length (nodes_in ys)
-  long = length-map items same_node_of ∙ sym (length-map ys node_in ∙ many)
+  long : length (map same_node_of items) ≡ length (slot_nodes ys)
+  long = length-map items same_node_of ∙ sym (length-map ys open_node ∙ many)
 
-  nodes-within : i < length (nodes_in ys)
-  nodes-within = omega (arith, length-map ys node_in, many)
+  nodes-within : i < length (slot_nodes ys)
+  nodes-within = omega (arith, length-map ys open_node, many)
 
   pub node-known : x.opened.node < length last.nodes.items
-  node-known = walk-in last.nodes.items (nodes_in ys) (map same_node_of items) s.nodes i x.opened.node node-here nodes-within
+  node-known = walk-in last.nodes.items (slot_nodes ys) (map same_node_of items) s.nodes i x.opened.node node-here nodes-within
 
-  closed : closing_in (set (map kept_kind_at items) i kind.Hole) + closing x.kind ≡ closing_in (map kept_kind_at items)
-  closed = closing-left (map kept_kind_at items) i x.kind (omega (arith, length-map items kept_kind_at))
-      (ap kept_kind_at is ∙ sym (get_or-map kept_kind_at items i x x.kind within))
+  closed : sum_by closing (set (map kept_kind_at items) i kind.Hole) + closing x.kind ≡ sum_by closing (map kept_kind_at items)
+  closed =
+      let written = sum_by-set closing (map kept_kind_at items) i kind.Hole kind.Hole (omega (arith, length-map items kept_kind_at)) in
+      omega (arith, written, ap closing (part-at kept_kind_at kind.Hole items i x within is))
 
   pub kind-counted : closing x.kind ≤ last.must_close
   kind-counted = omega (arith, closed, s.closes)
@@ -61,23 +57,13 @@ module _ (last : LastLevels) (items : List KeptNode) (i : ℕ) (x : KeptNode) (s
       → map same_node_of new ≡ set (map same_node_of items) i 0 → ((set : NameSet) (m : ℕ) → m ≢ i
       → get_or (map (set_node set) (map sets_at new)) m 0 ≡ get_or (map (set_node set) (map sets_at items)) m 0)
       → map kept_kind_at new ≡ set (map kept_kind_at items) i kind.Hole
-      → IsLinked next.names.items (set (names_in ys) i 0) (set (map same_name_of items') i 0) → next.nodes.items ≡ set last.nodes.items x.opened.node 0
+      → IsLinked next.names.items (set (slot_names ys) i 0) (set (map same_name_of items') i 0) → next.nodes.items ≡ set last.nodes.items x.opened.node 0
       → next.must_close ≡ last.must_close - closing x.kind → LevelsStand next new
   stands-left items' new next opened same_names same_nodes sets kinds names nodes must_close = record {
-    names = transport (λ t. IsLinked next.names.items (sym (ap names_in opened ∙ map-set open_name ys i None) t) (sym same_names t)) names;
-    nodes = transport (λ t. IsLinked (sym nodes t) (sym (ap nodes_in opened ∙ map-set node_in ys i None) t) (sym same_nodes t))
-        (linked-left last.nodes.items (nodes_in ys) (map same_node_of items) s.nodes i x.opened.node 0 nodes-within
-        (held-none last.nodes.items (nodes_in ys) (map same_node_of items) s.nodes i x.opened.node node-here long alone.none_below)
-        (set last.nodes.items x.opened.node 0) (set (map same_node_of items) i 0)
-        (λ k. either (λ k. get_or (set last.nodes.items x.opened.node 0) k 0 ≡ cond (eqb k x.opened.node) (get_or (map same_node_of items) i 0)
-        (get_or last.nodes.items k 0)) x.opened.node k
-        (get_or-set_same last.nodes.items x.opened.node 0 0 node-known
-        ∙ sym (ap (λ v. cond v (get_or (map same_node_of items) i 0) (get_or last.nodes.items x.opened.node 0)) (eqb-same x.opened.node) ∙ same_node-here))
-        (λ ne. get_or-set_other last.nodes.items x.opened.node k 0 0 ne
-        ∙ sym (ap (λ v. cond v (get_or (map same_node_of items) i 0) (get_or last.nodes.items k 0)) (eqb-not k x.opened.node ne))))
-        (λ m ne. get_or-set_other (map same_node_of items) i m 0 0 ne
-        ∙ sym (ap (λ v. cond v (get_or (map same_node_of items) i 0) (get_or (map same_node_of items) m 0)) (eqb-zero-suc m)))
-        (get_or-set_same (map same_node_of items) i 0 0 (omega (arith, length-map items same_node_of))));
+    names = transport (λ t. IsLinked next.names.items (sym (ap slot_names opened ∙ map-set open_name ys i None) t) (sym same_names t)) names;
+    nodes = transport (λ t. IsLinked (sym nodes t) (sym (ap slot_nodes opened ∙ map-set open_node ys i None) t)
+        (sym (same_nodes ∙ unchanged) t))
+        (left-alone last.nodes.items (slot_nodes ys) (map same_node_of items) s.nodes i x.opened.node node-here long nodes-within same_node-here alone.none_below);
     sets = λ group m h live. either (λ n. get_or (set ys i None) n None ≢ None → get_or (map (set_node group) (map sets_at new)) n 0
         ≡ nearest_up group (set ys i None) (suc n)) i m
         (λ some. absurd (some (get_or-set_same ys i None None (omega (arith, many)))))
@@ -85,10 +71,13 @@ module _ (last : LastLevels) (items : List KeptNode) (i : ℕ) (x : KeptNode) (s
         (λ e. live (ap (λ l. get_or l m None) opened ∙ e))
         ∙ ap (λ l. nearest_up group l (suc m)) (sym opened);
     kinds = kinds ∙ ap (λ (ks : List Kind). set ks i kind.Hole) s.kinds ∙ sym (map-set kept_kind ys i None) ∙ ap (map kept_kind) (sym opened);
-    closes = omega (arith, must_close, s.closes, ap closing_in kinds, closed);
+    closes = omega (arith, must_close, s.closes, ap (sum_by closing) kinds, closed);
     fits = omega (arith, s.fits, ap length nodes, length-set last.nodes.items x.opened.node 0);
   }
     where
+      unchanged : set (map same_node_of items) i 0 ≡ map same_node_of items
+      unchanged = ap (set (map same_node_of items) i) (sym same_node-here) ∙ set-get_or (map same_node_of items) i 0
+
       left : KeepSets (set ys i None) (map sets_at items)
       left = sets-neutral ys (map sets_at items) i (open_of x.opened) None (omega (arith, many)) here alone.plain (λ set a. refl) s.sets
 
@@ -101,15 +90,15 @@ module _ (last : LastLevels) (items : List KeptNode) (i : ℕ) (x : KeptNode) (s
   stands-renamed next y new name fresh new_in opened same_name same_node sets kind names nodes must_close = record {
     names = transport (λ t. IsLinked (sym names t) (sym same_numbers t) (sym (map-set_same same_name_of items i y x (same_name ∙ ap same_name_of is)) t))
         s.names;
-    nodes = transport (λ t. IsLinked (sym nodes t) (sym (ap nodes_in renamed ∙ map-set node_in ys i (Some (open_of new))) t)
+    nodes = transport (λ t. IsLinked (sym nodes t) (sym (ap slot_nodes renamed ∙ map-set open_node ys i (Some (open_of new))) t)
         (sym (map-set_same same_node_of items i y x (same_node ∙ ap same_node_of is)) t))
-        (linked-fresh last.nodes.items (nodes_in ys) (map same_node_of items) s.nodes i x.opened.node node-here long nodes-within new.node new_in
-        same_node-here alone.none_below fresh);
+        (linked-fresh last.nodes.items (slot_nodes ys) (map same_node_of items) s.nodes i x.opened.node node-here long nodes-within same_node-here
+        alone.none_below new.node new_in fresh);
     sets = transport (λ t. KeepSets (sym renamed t) (sym (map-set_same sets_at items i y x (sets ∙ ap sets_at is)) t))
         (sets-neutral ys (map sets_at items) i (open_of x.opened) (Some (open_of new)) (omega (arith, many)) here alone.plain
         (λ set a. nearest-plain set (open_of new) a (ap (λ n. is_special (tag_of n)) (sym name) ∙ alone.plain)) s.sets);
     kinds = map-set_same kept_kind_at items i y x (kind ∙ ap kept_kind_at is) ∙ s.kinds ∙ sym (ap (map kept_kind) renamed ∙ same_kinds);
-    closes = must_close ∙ s.closes ∙ ap closing_in (sym (map-set_same kept_kind_at items i y x (kind ∙ ap kept_kind_at is)));
+    closes = must_close ∙ s.closes ∙ ap (sum_by closing) (sym (map-set_same kept_kind_at items i y x (kind ∙ ap kept_kind_at is)));
     fits = omega (
       arith,
       s.fits,
@@ -122,8 +111,8 @@ module _ (last : LastLevels) (items : List KeptNode) (i : ℕ) (x : KeptNode) (s
       renamed : map opened_by (set items i y) ≡ set ys i (Some (open_of new))
       renamed = map-set opened_by items i y ∙ ap (set ys i) (held y (ap is_hole_kind kind ∙ alone.live) ∙ ap (λ (z : Open). Some (open_of z)) opened)
 
-      same_numbers : names_in (map opened_by (set items i y)) ≡ names_in ys
-      same_numbers = ap names_in renamed ∙ map-set_same open_name ys i (Some (open_of new)) None (ap suc (sym name) ∙ ap open_name (sym here))
+      same_numbers : slot_names (map opened_by (set items i y)) ≡ slot_names ys
+      same_numbers = ap slot_names renamed ∙ map-set_same open_name ys i (Some (open_of new)) None (ap suc (sym name) ∙ ap open_name (sym here))
 
       same_kinds : map kept_kind (set ys i (Some (open_of new))) ≡ map kept_kind ys
       same_kinds = map-set_same kept_kind ys i (Some (open_of new)) None (ap (λ n. kept_kind (Some (record { node = 0; name = n }))) (sym name)

@@ -1,5 +1,5 @@
 -- What is open in a slot.
-use Rattle.hopen.proofs.Names.{◌≡◌, ◌≢◌, ℕ, ◌<◌, Bool, true, false, cond, List, Option, Some, None, length, map, get_or, refl, ap, arith, get_or-map, is_hole_kind, opened_by, open_of, KeptNode, subst, kept_kind, may_stay_open, tag_of, sym, ◌∙◌, IsBelow, LastLevels, Open, OpenNode}
+use Rattle.hopen.proofs.Names.{◌≡◌, ◌≢◌, ℕ, ◌<◌, Bool, true, false, cond, List, Option, Some, None, length, map, get_or, refl, ap, arith, get_or-map, is_hole_kind, opened_by, open_of, KeptNode, kept_kind, may_stay_open, tag_of, ◌∙◌, IsBelow, LastLevels, Open, OpenNode}
 
 pub held : (x : KeptNode) → is_hole_kind x.kind ≡ false → opened_by x ≡ Some (open_of x.opened)
 held x e = ap (λ v. cond v None (Some (open_of x.opened))) e
@@ -29,11 +29,6 @@ kind-held y = go (may_stay_open (tag_of y.name)) refl
     go false e = rw e refl
 
 -- the slot of a node right below others
-pub below-held : (last : LastLevels) (above : List KeptNode) (new : Open) (x : KeptNode) → IsBelow last above new x → opened_by x ≡ Some (open_of x.opened)
-below-held last above new x b = held x (ap is_hole_kind b.kind ∙ kind-held (open_of new))
-
-pub below-same : (last : LastLevels) (above over : List KeptNode) (new : Open) (x y : KeptNode) → IsBelow last above new x → over ≡ above → y ≡ x
-    → IsBelow last over y.opened y
-below-same last above over new x y b same is =
-    subst (λ (z : KeptNode). IsBelow last over z.opened z) (sym is) (subst (λ (xs : List KeptNode). IsBelow last xs x.opened x) (sym same)
-    (subst (λ (o : Open). IsBelow last above o x) (sym b.opened) b))
+pub below-held : (last : LastLevels) (ys : List (Option (OpenNode ℕ))) (n : ℕ) (new : Open) (x : KeptNode) → IsBelow last ys n new x
+    → opened_by x ≡ Some (open_of x.opened)
+below-held last ys n new x b = held x (ap is_hole_kind b.kind ∙ kind-held (open_of new))

@@ -7,7 +7,6 @@ pub mod Swapped
 pub mod Projected
 pub mod Standing
 pub mod WrittenBack
-pub mod SlotEdits
 pub mod Gone
 pub mod Trimmed
 pub mod Spellings

@@ -15,12 +15,12 @@ pub use Rattle.hopen.specs.FormattingMapped.{FormattingKnowsNoNames, mapped_entr
 pub use Rattle.hopen.specs.Hashes.{entry_hash, distinct, hash_of, hash_put_in, token_hash}
 pub use Rattle.hopen.specs.Holes.{nth_live}
 pub use Rattle.hopen.specs.Items.{item_of, listed_items, IsStored, entry_is, is_gone, nowhere, AreSlots, IsSlot, hole, is_listed_hole, live, stored_entry, moved_entry}
-pub use Rattle.hopen.specs.Kept.{opened_by, LevelsStand, Rests, EndsOpen, names_in, open_name, same_name_of, stack_of, slots_of, same_node_of, node_in, AreIn, IsInSets, sets_at, kept_kind_at, kept_kind, closing, closing_in, nodes_in, IsLinked, last_same, exchanged, level_exchanged, AreHoles, IsHeldLevel, KeepSets, nearest_in, nearest_up, CanGiveWay, IsAlone, IsBelow, AreAlike, AreAlikeButNames, AreAsLong, CanPass, StandsAs, HasRoom, is_hole as is_hole_kind}
+pub use Rattle.hopen.specs.Kept.{opened_by, LevelsStand, Rests, EndsOpen, slot_names, open_name, same_name_of, stack_of, slots_of, same_node_of, open_node, AreIn, IsIn, sets_at, kept_kind_at, kept_kind, closing, slot_nodes, IsLinked, IsLinkedTo, KeepSetsTo, LevelsTo, StandsTo, last_same, exchanged, level_exchanged, AreHoles, IsHeldLevel, KeepSets, nearest_in, nearest_up, CanGiveWay, IsAlone, IsBelow, AreAlike, AreAlikeButNames, AreAsLong, CanPass, StandsAs, HasRoom, is_hole as is_hole_kind}
 pub use Rattle.hopen.specs.Listed.{number_by, AreSlotsListed, by_hash, by_name, by_node, numbers_by, unless_hole}
 pub use Rattle.hopen.specs.NameSets.{set_node, holds, is_in_set, is_in}
 pub use Rattle.hopen.specs.Opens.{open_of, is_sought}
 pub use Rattle.hopen.specs.Scopes.{is_named, is_of, is_of_group, stops_in_scope, stops_in}
-pub use Rattle.hopen.specs.Slots.{somes, holds_one}
+pub use Rattle.hopen.specs.Slots.{gap, somes, holds_one}
 pub use Rattle.hopen.specs.Mapped.{StackKnowsNoNames, mapped_open, mapped_stack}
 pub use Rattle.hopen.specs.Stack.{is_node, OpenNodes, OpenNode, furthest_block, current, in_scope, is_open, topmost_special, above, below}
 pub use Rattle.hopen.specs.StackView.{open_nodes_of}
@@ -56,20 +56,21 @@ pub use Rattle.std.proofs.lemmas.Iterator.{YieldsList-from_slice}
 pub use Rattle.std.proofs.lemmas.Iterator.Adapters.{option_map_id}
 pub use Rattle.std.proofs.lemmas.Iterator.Consumers.{YieldsList-from_filter_map, nth_from_yields_List}
 pub use Rattle.std.proofs.lemmas.Iterator.Search.{any_from_yields_List, all_from_yields_List}
-pub use Rattle.std.proofs.lemmas.List.{length-map, map-set, length-set, length-reverse, get_or-map, get_or-set_other, get_or_past, map-append, get_or-set_same, get_or_default, with_items_is, drop_at, length-take-le, take-map, drop-map, reverse-append, reverse-reverse, drop-drop, length-drop, take_all, drop-set, drop-set-lt, get_or_append_left, get_or_push, take_more_set, take_rest, get_or-reverse, append-nil, append_assoc, get_or_read, drop_more, get_or-append_right, get_or-drop, get_or-take, set-get_or, set-set, set_comm, set_split, take-append-drop, take-set, take-set-le, take_at, take_more, map-id}
+pub use Rattle.std.proofs.lemmas.List.{length-map, map-set, length-set, length-reverse, get_or-map, get_or-set_other, get_or_past, map-append, get_or-set_same, get_or_default, with_items_is, drop_at, length-take-le, take-map, drop-map, reverse-append, reverse-reverse, drop-drop, length-drop, take_all, drop-set, drop-set-lt, get_or_append_left, get_or_push, take_more_set, take_rest, get_or-reverse, append-nil, append_assoc, get_or_read, drop_more, get_or-append_right, get_or-drop, get_or-take, set-get_or, set-set, set_comm, set_split, take-append-drop, take-set, take-set-le, take_at, take_more, map-id, take-append-le, take-take, ext_get_or, append_cancel_left}
 pub use Rattle.std.proofs.lemmas.List.Edits.{length-insert, length-remove, swap_is, between_more, length-swap, swapped_from_swap}
-pub use Rattle.std.proofs.lemmas.List.Elements.{All-append, All-drop, All-get_or, All-head, All-tail, All-take, filter-append, All-set, All-filter, filter_passes}
+pub use Rattle.std.proofs.lemmas.List.Elements.{All-append, All-drop, All-get_or, All-head, All-tail, All-take, filter-append, All-set, All-cons, All-filter, filter_passes}
 pub use Rattle.std.proofs.lemmas.List.Filters.{dedup_is}
 pub use Rattle.std.proofs.lemmas.List.Folds.{list_all-map, find_at, list_all_at, list_any_at, list_any_more, list_all-append}
 pub use Rattle.std.proofs.lemmas.List.Kept.{IsStrictlySortedBy-dedup}
 pub use Rattle.std.proofs.lemmas.List.Sorted.{list_any-IsPermutation}
+pub use Rattle.std.proofs.lemmas.List.Sums.{get_or-le-sum_by, sum_by-cons, sum_by-insert, sum_by-le, sum_by-set, sum_by_more, sum_by_push}
 pub use Rattle.std.proofs.lemmas.Map.Lookups.{btree_set_from_contains}
 pub use Rattle.std.proofs.lemmas.Option.{slice_get_past, slice_get-map, slice_get_read, cond_some, get_or_from_slice_get}
 pub use Rattle.std.proofs.lemmas.Simd.{map-map}
 pub use Rattle.std.specs.BTreeMap.{is_at}
 pub use Rattle.std.specs.Cmp.{nat_cmp_is, unsigned_ties}
 pub use Rattle.std.specs.FinMap.{nat_cmp-IsAntisymmetric}
-pub use Rattle.std.specs.List.{remove_range, position, list_all, slice_get, find, position_or_len, list_any, All, swap, AllByRecursion, between, dedup, dedup_from, cons_option, filter_map}
+pub use Rattle.std.specs.List.{sum_by, remove_range, position, list_all, slice_get, find, position_or_len, list_any, All, swap, AllByRecursion, between, dedup, dedup_from, cons_option, filter_map}
 pub use Rattle.std.specs.List.Sorted.{IsStrictlySortedBy}
 pub use Rattle.std.specs.Option.{option_map, unwrap_or, option_or, IfSome, is_some, option_map_or, option_and_then}
 pub use Rattle.std.specs.Prelude.{nat_eq, bytes_eq, if◌then◌else◌, slice_index, max}

@@ -1,5 +1,5 @@
 -- Levels of slots, and what is open there.
-use Rattle.hopen.proofs.Names.{◌≡◌, ◌≢◌, ℕ, zero, suc, ◌+◌, ◌-◌, ◌<◌, ◌≤◌, eqb, Bool, true, false, cond, List, [], ◌∷◌, Option, Some, None, length, map, reverse, take, take-suc, get_or, set, inl, inr, refl, sym, ◌∙◌, ap, arith, cases_lt, eqb-zero-suc, find, position, slice_get, length-map, length-reverse, map-id, reverse-append, take_all, length-take-le, nat_tests, last_place, last_place-le, position-some, position-none, words, no_words, reverse_push, slice_get_nearest, change_nearest, changed, somes, holds_one, opened_by, open_of, slots_of, stack_of, node_in, open_name, names_in, nodes_in, is_node, is_named, nat_eq, IsLinked, EndsOpen, current, get_or_from_slice_get, slice_get_past, KeptNode, OpenNode}
+use Rattle.hopen.proofs.Names.{◌≡◌, ◌≢◌, ℕ, suc, ◌+◌, ◌-◌, ◌<◌, ◌≤◌, eqb, Bool, true, false, cond, List, [], ◌∷◌, Option, Some, None, length, map, reverse, take, take-suc, get_or, set, inl, inr, refl, sym, ◌∙◌, ap, arith, cases_lt, eqb-zero-suc, find, position, slice_get, length-map, length-reverse, map-id, take_all, nat_tests, last_place, last_place-le, position-some, position-none, words, no_words, reverse_push, slice_get_nearest, change_nearest, changed, somes, holds_one, opened_by, open_of, slots_of, stack_of, open_node, open_name, slot_names, slot_nodes, is_node, is_named, nat_eq, IsLinked, EndsOpen, current, get_or_from_slice_get, slice_get_past, KeptNode, OpenNode}
 use Rattle.hopen.proofs.Held.{held, is-held, opened-at, some≢none}
 use Rattle.hopen.proofs.Linked.{says-levels}
 use Rattle.hopen.proofs.Somes.{find-somes, none-somes}
@@ -38,36 +38,6 @@ module _ {X : Type 0} (s : X → Bool) where
 
   pub place-past : (z : X) (zs : List X) → s z ≡ false → last_place s (z ∷ zs) ≡ last_place s zs
   place-past z zs e = ap (λ v. cond v (suc (length zs)) (last_place s zs)) e
-
-  module _ (d : X) (ys : List X) where
-    one-more : (n : ℕ) → n < length ys → reverse (take (suc n) ys) ≡ get_or ys n d ∷ reverse (take n ys)
-    one-more n h = ap reverse (take-suc ys n d h) ∙ reverse-append (take n ys) (get_or ys n d ∷ [])
-
-    -- none from an index on is sought
-    pub place-less : (m n : ℕ) → m ≤ n → n ≤ length ys → ((k : ℕ) → m ≤ k → k < n → s (get_or ys k d) ≡ false)
-        → last_place s (reverse (take n ys)) ≡ last_place s (reverse (take m ys))
-    place-less m zero h within none = let same : zero ≡ m = omega arith in ap (λ k. last_place s (reverse (take k ys))) same
-    place-less m (suc n) h within none = elim (cases_lt m (suc n)) [
-      | inl less ↦
-          ap (last_place s) (one-more n (omega arith)) ∙ place-past (get_or ys n d) (reverse (take n ys)) (none n (omega arith) (omega arith))
-          ∙ place-less m n (omega arith) (omega arith) (λ k a b. none k a (omega arith))
-      | inr more ↦ (let same : suc n ≡ m = omega arith in ap (λ k. last_place s (reverse (take k ys))) same)
-    ]
-
-    -- the last that is sought
-    pub place-at : (j : ℕ) → j < length ys → s (get_or ys j d) ≡ true → ((k : ℕ) → j < k → k < length ys → s (get_or ys k d) ≡ false)
-        → last_place s (reverse ys) ≡ suc j
-    place-at j within here past =
-        ap (λ l. last_place s (reverse l)) (sym (take_all (length ys) ys (omega arith)))
-        ∙ place-less (suc j) (length ys) (omega arith) (omega arith) (λ k a b. past k (omega arith) b)
-        ∙ ap (last_place s) (one-more j within) ∙ place-here (get_or ys j d) (reverse (take j ys)) here
-        ∙ ap suc (length-reverse (take j ys) ∙ (omega (arith, length-take-le j ys (omega arith))))
-
-    -- none is sought
-    pub place-none : ((k : ℕ) → k < length ys → s (get_or ys k d) ≡ false) → last_place s (reverse ys) ≡ 0
-    place-none none =
-        ap (λ l. last_place s (reverse l)) (sym (take_all (length ys) ys (omega arith)))
-        ∙ place-less 0 (length ys) (omega arith) (omega arith) (λ k a b. none k b)
 
 -- what is found in the slots is no hole
 found-open : {X : Type 0} (s : X → Bool) (zs : List (Option X)) (z : Option X) → find (holds_one s) zs ≡ Some z → z ≢ None
@@ -138,7 +108,7 @@ set-placed s items i z p =
     ∙ ap (λ l. changed (holds_one s) (λ _. z) (reverse l)) back
 
 -- a number and the node or the name that has it
-node-sought : (k : ℕ) (z : Option (OpenNode ℕ)) → eqb (node_in z) (suc k) ≡ holds_one (is_node k) z
+node-sought : (k : ℕ) (z : Option (OpenNode ℕ)) → eqb (open_node z) (suc k) ≡ holds_one (is_node k) z
 node-sought k None = eqb-zero-suc k
 node-sought k (Some y) = grind (arith, nat_tests)
 
@@ -147,10 +117,10 @@ name-sought k None = eqb-zero-suc k
 name-sought k (Some y) = grind (arith, nat_tests)
 
 -- what the tables say
-pub node-level : (t bs : List ℕ) (items : List KeptNode) → IsLinked t (nodes_in (map opened_by items)) bs → (k : ℕ)
+pub node-level : (t bs : List ℕ) (items : List KeptNode) → IsLinked t (slot_nodes (map opened_by items)) bs → (k : ℕ)
     → get_or t k 0 ≡ last_place (holds_one (is_node k)) (slots_of items)
-node-level t bs items l k = says-levels node_in t bs (map opened_by items) l k ∙ (λ i. last_place (λ z. node-sought k z i) (slots_of items))
+node-level t bs items l k = says-levels open_node t bs (map opened_by items) l k ∙ (λ i. last_place (λ z. node-sought k z i) (slots_of items))
 
-pub name-level : (t bs : List ℕ) (items : List KeptNode) → IsLinked t (names_in (map opened_by items)) bs → (k : ℕ)
+pub name-level : (t bs : List ℕ) (items : List KeptNode) → IsLinked t (slot_names (map opened_by items)) bs → (k : ℕ)
     → get_or t k 0 ≡ last_place (holds_one (is_named nat_eq k)) (slots_of items)
 name-level t bs items l k = says-levels open_name t bs (map opened_by items) l k ∙ (λ i. last_place (λ z. name-sought k z i) (slots_of items))

@@ -1,8 +1,9 @@
 -- What is seen of the open nodes after an edit of their vector.
-use Rattle.hopen.proofs.Names.{◌≡◌, ℕ, suc, ◌<◌, ◌≤◌, Bool, List, [], ◌∷◌, Some, None, length, map, reverse, set, refl, sym, ◌∙◌, ap, subst, arith, length-map, length-set, without, changed, last_place, position, position-none, no_words, item_put_before, somes, holds_one, slots_of, stack_of, OpenNode, OpenNodes, opened_by, open_nodes_of, KeptNode, LastLevels, Inside, LevelsStand, Rests, EndsOpen}
+use Rattle.hopen.proofs.Names.{◌≡◌, ℕ, suc, ◌<◌, ◌≤◌, Bool, List, [], ◌∷◌, Some, None, length, map, reverse, set, refl, sym, ◌∙◌, ap, subst, arith, length-map, length-set, without, changed, last_place, position, position-none, no_words, item_put_before, somes, holds_one, slots_of, stack_of, OpenNode, OpenNodes, opened_by, open_nodes_of, KeptNode, LastLevels, Inside, LevelsStand, Rests, EndsOpen, gap, get_or, sum_by, sum_by-set}
 use Rattle.hopen.proofs.ExchangedSlots.{ends-set}
 use Rattle.hopen.proofs.OpenLevels.{set-placed, IsPlaced}
 use Rattle.hopen.proofs.Somes.{changed-somes, left-somes}
+use Rattle.hopen.proofs.Trimmed.{gap-live, stack-holes}
 
 pub seen : (s : Inside) (n : OpenNodes ℕ) (word : List (OpenNode ℕ) → List (OpenNode ℕ)) (items : List KeptNode) → open_nodes_of s ≡ n
     → stack_of items ≡ word (stack_of s.items.items)
@@ -60,6 +61,15 @@ module _ (s : OpenNode ℕ → Bool) (items : List KeptNode) (i : ℕ) (p : IsPl
         record {
           stands = stands;
           ends = subst EndsOpen (sym is) (ends-set (map opened_by items) i y (omega (arith, length-map items opened_by)) r.ends);
-          holes = omega (arith, r.holes, ap length stack-replaced, length-changed s (λ _. y) (stack_of items));
+          holes = omega (
+            arith,
+            r.holes,
+            holes,
+            ap (sum_by gap) is,
+            sum_by-set gap (map opened_by items) i (Some y) None (omega (arith, length-map items opened_by)),
+            gap-live (get_or (map opened_by items) i None) p.live,
+            stack-holes items,
+            stack-holes new,
+          );
           levels = omega (arith, r.levels);
         }

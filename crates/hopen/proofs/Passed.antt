@@ -1,5 +1,5 @@
 -- What is kept of the open nodes where one passes the next one below it.
-use Rattle.hopen.proofs.Names.{◌≡◌, ◌≢◌, ℕ, zero, suc, ◌+◌, ◌<◌, ◌≤◌, false, List, [], ◌∷◌, Option, Some, None, length, map, get_or, set, ◌⊎◌, inl, inr, sym, ◌∙◌, ap, subst, transport, arith, cases_eq, cases_lt, get_or_default, get_or-set_same, get_or-set_other, length-map, length-set, map-set, closing, closing_in, exchanged, is_hole_kind, kept_kind_at, kept_kind, open_name, names_in, node_in, nodes_in, nearest_in, nearest_up, opened_by, same_name_of, same_node_of, sets_at, set_node, AreHoles, CanPass, IsLinked, KeepSets, Kind, KeptNode, LastLevels, NameSet, OpenNode, SetNodes, LevelsStand, is_special, tag_of}
+use Rattle.hopen.proofs.Names.{◌≡◌, ◌≢◌, ℕ, zero, suc, ◌<◌, ◌≤◌, false, List, Option, Some, None, length, map, get_or, set, ◌⊎◌, inl, inr, sym, ◌∙◌, ap, subst, transport, arith, cases_eq, cases_lt, get_or_default, get_or-set_same, get_or-set_other, length-map, length-set, map-set, closing, exchanged, is_hole_kind, kept_kind_at, kept_kind, open_name, slot_names, open_node, slot_nodes, nearest_in, nearest_up, opened_by, same_name_of, same_node_of, sets_at, set_node, AreHoles, CanPass, IsLinked, KeepSets, KeptNode, LastLevels, NameSet, OpenNode, SetNodes, LevelsStand, is_special, tag_of, sum_by, sum_by-set}
 use Rattle.hopen.specs.declared.kept.Kind.TheVariants as kind
 use Rattle.std.proofs.Math.ListN.{get_or-map}
 use Rattle.hopen.proofs.Held.{some≢none}
@@ -17,7 +17,7 @@ nearest-holes set ys i (suc n) h holes = elim (cases_lt i (suc n)) as (λ _. nea
 ]
 
 -- a node that is not special, and the next one below it, change places
-module _ (ys : List (Option (OpenNode ℕ))) (i j : ℕ) (x y : OpenNode ℕ) (less : i < j) (within : j < length ys) (holes : AreHoles i j (names_in ys))
+module _ (ys : List (Option (OpenNode ℕ))) (i j : ℕ) (x y : OpenNode ℕ) (less : i < j) (within : j < length ys) (holes : AreHoles i j (slot_names ys))
     (first : get_or ys i None ≡ Some x) (second : get_or ys j None ≡ Some y) (plain : is_special (tag_of x.name) ≡ false) where
   abbrev zs : List (Option (OpenNode ℕ))
   zs = exchanged i j None ys
@@ -92,20 +92,15 @@ module _ (ys : List (Option (OpenNode ℕ))) (i j : ℕ) (x y : OpenNode ℕ) (l
               let here : n ≡ j = omega arith in
               k s n h (some≢none y _ (ap (λ m. get_or ys m None) here ∙ second)) ∙ sym (nearest-below s (suc n) (omega arith))
 
--- how many must be closed, where one slot is written
-closing-set : (ks : List Kind) (i : ℕ) (k d : Kind) → i < length ks → closing_in (set ks i k) + closing (get_or ks i d) ≡ closing_in ks + closing k
-closing-set [] i k d h = absurd (omega arith)
-closing-set (x ∷ ks) zero k d h = omega arith
-closing-set (x ∷ ks) (suc i) k d h = omega (arith, closing-set ks i k d (omega arith))
-
-closing-exchanged : (ks : List Kind) (i j : ℕ) (d : Kind) → i < j → j < length ks → closing_in (exchanged i j d ks) ≡ closing_in ks
-closing-exchanged ks i j d less within =
-    let other : get_or (set ks i (get_or ks j d)) j d ≡ get_or ks j d = get_or-set_other ks i j (get_or ks j d) d (λ e. absurd (omega arith)) in
+-- a sum stays where two members change places
+pub sum-exchanged : {X : Type 0} (f : X → ℕ) (xs : List X) (i j : ℕ) (d : X) → i < j → j < length xs → sum_by f (exchanged i j d xs) ≡ sum_by f xs
+sum-exchanged f xs i j d less within =
+    let other : get_or (set xs i (get_or xs j d)) j d ≡ get_or xs j d = get_or-set_other xs i j (get_or xs j d) d (λ e. absurd (omega arith)) in
     omega (
       arith,
-      closing-set ks i (get_or ks j d) d (omega arith),
-      closing-set (set ks i (get_or ks j d)) j (get_or ks i d) d (omega (arith, length-set ks i (get_or ks j d))),
-      ap closing other,
+      sum_by-set f xs i (get_or xs j d) d (omega arith),
+      sum_by-set f (set xs i (get_or xs j d)) j (get_or xs i d) d (omega (arith, length-set xs i (get_or xs j d))),
+      ap f other,
     )
 
 module _ (last : LastLevels) (items : List KeptNode) (i j : ℕ) (s : LevelsStand last items) (p : CanPass last items i j) (x y : KeptNode)
@@ -116,21 +111,21 @@ module _ (last : LastLevels) (items : List KeptNode) (i j : ℕ) (s : LevelsStan
   -- the node has passed
   pub stands-passed : (after : LastLevels) (new : List KeptNode) → map opened_by new ≡ exchanged i j None (map opened_by items)
       → map same_node_of new ≡ exchanged i j 0 (map same_node_of items)
-      → IsLinked after.names.items (exchanged i j 0 (names_in (map opened_by items))) (map same_name_of new)
+      → IsLinked after.names.items (exchanged i j 0 (slot_names (map opened_by items))) (map same_name_of new)
       → after.nodes.items ≡ set (set last.nodes.items x.opened.node (suc j)) y.opened.node (suc i)
       → KeepSets (map opened_by new) (map sets_at new) → map kept_kind_at new ≡ exchanged i j kind.Hole (map kept_kind_at items) → after.must_close ≡ last.must_close
       → LevelsStand after new
   stands-passed after new opened same_nodes names nodes sets kinds closes = record {
     names = subst (λ l. IsLinked after.names.items l (map same_name_of new)) (sym (moved open_name)) names;
-    nodes = transport (λ t. IsLinked (sym nodes t) (sym (moved node_in) t) (sym same_nodes t))
-        (linked-alone last.nodes.items (nodes_in ys) (map same_node_of items) s.nodes
+    nodes = transport (λ t. IsLinked (sym nodes t) (sym (moved open_node) t) (sym same_nodes t))
+        (linked-alone last.nodes.items (slot_nodes ys) (map same_node_of items) s.nodes
         (omega (arith, length-map items same_node_of, length-nodes items)) i j x.opened.node y.opened.node p.order
         (omega (arith, p.within, length-nodes items)) (node-at items i x front first upper.0)
         (node-at items j y p.within second lower.0) holes upper.2 lower.1);
     sets = sets;
     kinds = kinds ∙ ap (exchanged i j kind.Hole) s.kinds ∙ sym (exchanged-map i j None ys kept_kind) ∙ ap (map kept_kind) (sym opened);
-    closes = closes ∙ s.closes ∙ sym (ap closing_in kinds
-        ∙ closing-exchanged (map kept_kind_at items) i j kind.Hole p.order (omega (arith, p.within, length-map items kept_kind_at)));
+    closes = closes ∙ s.closes ∙ sym (ap (sum_by closing) kinds
+        ∙ sum-exchanged closing (map kept_kind_at items) i j kind.Hole p.order (omega (arith, p.within, length-map items kept_kind_at)));
     fits = omega (
       arith,
       s.fits,
@@ -154,5 +149,5 @@ module _ (last : LastLevels) (items : List KeptNode) (i j : ℕ) (s : LevelsStan
       moved g = ap (map g) opened ∙ exchanged-map i j None ys g
 
       -- a slot with no name has no node
-      holes : AreHoles i j (nodes_in ys)
-      holes m a b = get_or-map node_in ys m None ∙ ap node_in (no-name ys m (p.holes m a b))
+      holes : AreHoles i j (slot_nodes ys)
+      holes m a b = get_or-map open_node ys m None ∙ ap open_node (no-name ys m (p.holes m a b))

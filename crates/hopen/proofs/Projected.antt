@@ -1,20 +1,24 @@
 -- What the items of a vector keep, by index.
-use Rattle.hopen.proofs.Names.{◌≡◌, ℕ, zero, suc, ◌<◌, ◌≤◌, true, false, List, length, map, get_or, set, Option, Some, None, inl, inr, refl, sym, ◌∙◌, ap, arith, cases_lt, length-map, get_or_past, get_or-set_other, get_or_default, map-set, map-set_same, exchanged, is_hole_kind, names_in, open_name, nodes_in, node_in, open_of, opened_by, same_name_of, same_node_of, IsHeldLevel, IsLinked, KeptNode, OpenNode}
+use Rattle.hopen.proofs.Names.{get_or-map as map-at, ◌≡◌, ℕ, zero, suc, ◌<◌, ◌≤◌, true, false, List, length, map, get_or, set, Option, Some, None, inl, inr, refl, sym, ◌∙◌, ap, arith, cases_lt, length-map, get_or_past, get_or-set_other, get_or_default, map-set, map-set_same, exchanged, is_hole_kind, slot_names, open_name, slot_nodes, open_node, open_of, opened_by, same_name_of, IsHeldLevel, IsLinked, KeptNode, OpenNode}
 use Rattle.std.proofs.Math.ListN.{get_or-map}
 use Rattle.hopen.proofs.Held.{held, is-held, no-node, some≢none}
 use Rattle.hopen.proofs.Swapped.{walk-in}
 
 module _ (items : List KeptNode) where
-  pub length-names : length (names_in (map opened_by items)) ≡ length items
+  pub length-names : length (slot_names (map opened_by items)) ≡ length items
   length-names = length-map (map opened_by items) open_name ∙ length-map items opened_by
 
-  pub length-nodes : length (nodes_in (map opened_by items)) ≡ length items
-  length-nodes = length-map (map opened_by items) node_in ∙ length-map items opened_by
+  pub length-nodes : length (slot_nodes (map opened_by items)) ≡ length items
+  length-nodes = length-map (map opened_by items) open_node ∙ length-map items opened_by
 
 -- what is read at an index
 module _ {Y : Type 0} (f : KeptNode → Y) (d : Y) (items : List KeptNode) (i : ℕ) (x : KeptNode) (h : i < length items) (is : x ≡ get_or items i x) where
   pub part-at : get_or (map f items) i d ≡ f x
-  part-at = get_or_default (map f items) i d (f x) (omega (arith, length-map items f)) ∙ get_or-map f items i x ∙ ap f (sym is)
+  part-at = map-at f items i x d h ∙ ap f (sym is)
+
+pub part-of : {X Y : Type 0} (g : X → Y) (f : KeptNode → X) (d : Y) (items : List KeptNode) (i : ℕ) (x : KeptNode) → i < length items → x ≡ get_or items i x
+    → get_or (map g (map f items)) i d ≡ g (f x)
+part-of g f d items i x h is = map-at g (map f items) i (f x) d (omega (arith, length-map items f)) ∙ ap g (part-at f (f x) items i x h is)
 
 -- a slot with a node is no hole
 some-same : {X : Type 0} (x y : X) → Some x ≡ Some y → x ≡ y
@@ -30,17 +34,14 @@ hole-of : (z : Option (OpenNode ℕ)) → open_name z ≡ 0 → z ≡ None
 hole-of None e = refl
 hole-of (Some x) e = absurd (omega arith)
 
-pub no-name : (ys : List (Option (OpenNode ℕ))) (m : ℕ) → get_or (names_in ys) m 0 ≡ 0 → get_or ys m None ≡ None
+pub no-name : (ys : List (Option (OpenNode ℕ))) (m : ℕ) → get_or (slot_names ys) m 0 ≡ 0 → get_or ys m None ≡ None
 no-name ys m e = hole-of (get_or ys m None) (sym (get_or-map open_name ys m None) ∙ e)
 
 module _ (items : List KeptNode) (i : ℕ) (x : KeptNode) (h : i < length items) (is : x ≡ get_or items i x) where
   pub same_name-at : get_or (map same_name_of items) i 0 ≡ x.same_name
   same_name-at = part-at same_name_of 0 items i x h is
 
-  pub same_node-at : get_or (map same_node_of items) i 0 ≡ x.same_node
-  same_node-at = part-at same_node_of 0 items i x h is
-
-  pub name-hole : is_hole_kind x.kind ≡ true → get_or (names_in (map opened_by items)) i 0 ≡ 0
+  pub name-hole : is_hole_kind x.kind ≡ true → get_or (slot_names (map opened_by items)) i 0 ≡ 0
   name-hole e =
       get_or-map open_name (map opened_by items) i None
       ∙ ap open_name (part-at opened_by None items i x h is ∙ no-node x e)
@@ -50,18 +51,18 @@ module _ (items : List KeptNode) (i : ℕ) (x : KeptNode) (h : i < length items)
     pub opened-at : get_or (map opened_by items) i None ≡ Some (open_of x.opened)
     opened-at = part-at opened_by None items i x h is ∙ held x live
 
-    pub name-at : get_or (names_in (map opened_by items)) i 0 ≡ suc x.opened.name
+    pub name-at : get_or (slot_names (map opened_by items)) i 0 ≡ suc x.opened.name
     name-at = get_or-map open_name (map opened_by items) i None ∙ ap open_name opened-at
 
-    pub node-at : get_or (nodes_in (map opened_by items)) i 0 ≡ suc x.opened.node
-    node-at = get_or-map node_in (map opened_by items) i None ∙ ap node_in opened-at
+    pub node-at : get_or (slot_nodes (map opened_by items)) i 0 ≡ suc x.opened.node
+    node-at = get_or-map open_node (map opened_by items) i None ∙ ap open_node opened-at
 
     -- its numbers are in the tables
-    pub name-in : (t bs : List ℕ) → IsLinked t (names_in (map opened_by items)) bs → x.opened.name < length t
-    name-in t bs l = walk-in t (names_in (map opened_by items)) bs l i x.opened.name name-at (omega (arith, length-names items))
+    pub name-in : (t bs : List ℕ) → IsLinked t (slot_names (map opened_by items)) bs → x.opened.name < length t
+    name-in t bs l = walk-in t (slot_names (map opened_by items)) bs l i x.opened.name name-at (omega (arith, length-names items))
 
-    pub node-in : (t bs : List ℕ) → IsLinked t (nodes_in (map opened_by items)) bs → x.opened.node < length t
-    node-in t bs l = walk-in t (nodes_in (map opened_by items)) bs l i x.opened.node node-at (omega (arith, length-nodes items))
+    pub node-in : (t bs : List ℕ) → IsLinked t (slot_nodes (map opened_by items)) bs → x.opened.node < length t
+    node-in t bs l = walk-in t (slot_nodes (map opened_by items)) bs l i x.opened.node node-at (omega (arith, length-nodes items))
 
 -- one that keeps a level is in the list
 pub held-within : (t bs : List ℕ) (a p n : ℕ) → 0 < p → IsHeldLevel t bs a p n → n ≤ length bs

@@ -1,5 +1,6 @@
 -- Searches that go up the open nodes, in the words of the code.
-use Rattle.hopen.proofs.Names.{◌≡◌, ℕ, suc, ◌-◌, ◌+◌, inl, inr, Bool, true, false, ◌&&◌, List, [], ◌∷◌, ◌++◌, Option, Some, None, length, drop, take, map, reverse, refl, sym, ◌∙◌, ap, arith, cases_lt, nat_eq, nat_tests, zero-add, position, find, list_all, list_all-append, option_or, words, no_words, reverse-append, OpenNode, current, topmost_special, furthest_block, is_node, Tag, is_special, may_stay_open, before, after, take_nearest, drop_nearest, tag_of, somes, slots_of, stack_of, holds_one, opened_by, closing, closing_in, kept_kind, last_place, KeptNode, LastLevels, LevelsStand, position-none}
+use Rattle.hopen.proofs.Names.{◌≡◌, ℕ, suc, ◌-◌, ◌+◌, inl, inr, Bool, true, false, List, [], ◌∷◌, ◌++◌, Option, Some, None, length, drop, take, map, reverse, refl, sym, ◌∙◌, ap, arith, cases_lt, nat_eq, nat_tests, zero-add, position, find, list_all, list_all-append, option_or, words, no_words, reverse-append, OpenNode, current, topmost_special, furthest_block, is_node, Tag, is_special, may_stay_open, before, after, take_nearest, drop_nearest, tag_of, somes, slots_of, stack_of, holds_one, opened_by, closing, kept_kind, sum_by, sum_by-cons, last_place, KeptNode, LastLevels, LevelsStand, position-none, ◌&&◌, if◌then◌else◌}
+use Rattle.hopen.specs.declared.kept.Kind.TheVariants as kind
 use Rattle.hopen.proofs.OpenLevels.{placed}
 use Rattle.hopen.proofs.Somes.{after-somes, before-somes, reverse-somes}
 
@@ -114,20 +115,21 @@ furthest-level n items level at =
     ∙ before-somes (is_node n) (slots_of items))
 
 -- none must be closed where all may stay
-closing-all : (ys : List (Option (OpenNode ℕ))) → nat_eq (closing_in (map kept_kind ys)) 0 ≡ list_all (λ x. may_stay_open (tag_of x.name)) (somes ys)
+closing-all : (ys : List (Option (OpenNode ℕ))) → nat_eq (sum_by closing (map kept_kind ys)) 0 ≡ list_all (λ x. may_stay_open (tag_of x.name)) (somes ys)
 closing-all [] = refl
-closing-all (None ∷ ys) = ap (λ k. nat_eq k 0) (zero-add (closing_in (map kept_kind ys))) ∙ closing-all ys
-closing-all (Some y ∷ ys) = go (may_stay_open (tag_of y.name)) refl (closing-all ys)
+closing-all (None ∷ ys) = closing-all ys
+closing-all (Some y ∷ ys) =
+    ap (λ k. nat_eq k 0) (sum_by-cons closing (kept_kind (Some y)) (map kept_kind ys)) ∙ go (may_stay_open (tag_of y.name)) (closing-all ys)
   where
-    go : (v : Bool) → may_stay_open (tag_of y.name) ≡ v → nat_eq (closing_in (map kept_kind ys)) 0 ≡ list_all (λ x. may_stay_open (tag_of x.name)) (somes ys)
-        → nat_eq (closing (kept_kind (Some y)) + closing_in (map kept_kind ys)) 0 ≡ (may_stay_open (tag_of y.name) && list_all
-        (λ x. may_stay_open (tag_of x.name)) (somes ys))
-    go true e rest = rw e (ap (λ k. nat_eq k 0) (zero-add (closing_in (map kept_kind ys))) ∙ rest)
-    go false e rest = rw e (grind (arith, nat_tests))
+    go : (v : Bool) → nat_eq (sum_by closing (map kept_kind ys)) 0 ≡ list_all (λ x. may_stay_open (tag_of x.name)) (somes ys)
+        → nat_eq (closing (if v then kind.MayStay else kind.MustClose) + sum_by closing (map kept_kind ys)) 0
+        ≡ (v && list_all (λ x. may_stay_open (tag_of x.name)) (somes ys))
+    go true rest = ap (λ k. nat_eq k 0) (zero-add (sum_by closing (map kept_kind ys))) ∙ rest
+    go false rest = grind (arith, nat_tests)
 
 pub all-stay : (last : LastLevels) (items : List KeptNode) → LevelsStand last items → nat_eq last.must_close 0
     ≡ list_all (λ x. may_stay_open (tag_of x.name)) (stack_of items)
 all-stay last items s =
     let p : OpenNode ℕ → Bool = λ x. may_stay_open (tag_of x.name) in
-    ap (λ k. nat_eq k 0) (s.closes ∙ ap closing_in s.kinds) ∙ closing-all (map opened_by items)
+    ap (λ k. nat_eq k 0) (s.closes ∙ ap (sum_by closing) s.kinds) ∙ closing-all (map opened_by items)
     ∙ sym (ap (list_all p) (reverse-somes (map opened_by items)) ∙ all-reverse p (somes (map opened_by items)))

@@ -1,56 +1,119 @@
 -- The level of the nearest node of a set, by the node that is kept.
-use Rattle.hopen.proofs.Names.{◌≡◌, ℕ, suc, ◌-◌, ◌<◌, ◌≤◌, List, Option, None, length, map, reverse, take, get_or, inl, inr, sym, ◌∙◌, ap, arith, cases_lt, eqb-true, get_or-map, get_or_default, get_or_past, length-map, take-map, take_all, last_up, last_place, up-within, up-found, up-least, LevelsStand, nodes_in, node_in, opened_by, slots_of, holds_one, is_in, nearest_up, same_node_of, KeptNode, LastLevels, NameSet, OpenNode}
-use Rattle.hopen.proofs.Linked.{eqb-same, kept-member, numbered}
-use Rattle.hopen.proofs.NearestUp.{nearest-none, nearest-some, IsNearest}
-use Rattle.hopen.proofs.OpenLevels.{place-at, place-less, place-none}
+use Rattle.hopen.proofs.Names.{◌≡◌, ℕ, zero, suc, ◌-◌, ◌<◌, ◌≤◌, ◌⊎◌, Bool, true, false, cond, List, Option, Some, None, length, map, reverse, take, get_or, inl, inr, refl, sym, ◌∙◌, ap, arith, cases_Bool, cases_lt, eqb-true, get_or-map, get_or_default, get_or_past, length-map, reverse-map, take-map, take_all, last_up, last_place, up-within, up-found, up-least, up-past, LevelsStand, slot_nodes, open_node, opened_by, slots_of, holds_one, is_in, nearest_in, nearest_up, same_node_of, KeptNode, LastLevels, NameSet, OpenNode}
+use Rattle.std.proofs.Math.ListN.{get_or-map as map-at}
+use Rattle.hopen.proofs.IndexSteps.{last_up-is}
+use Rattle.hopen.proofs.Linked.{eqb-same, kept-member, numbered, place-map}
+
+-- a slot that holds a node of a set, as a number
+abbrev member : NameSet → Option (OpenNode ℕ) → ℕ
+member set z = cond (holds_one (is_in set) z) 1 0
+
+member-sought : (set : NameSet) (z : Option (OpenNode ℕ)) → numbered 0 (member set z) ≡ holds_one (is_in set) z
+member-sought set z = go (holds_one (is_in set) z)
+  where
+    go : (v : Bool) → numbered 0 (cond v 1 0) ≡ v
+    go true = refl
+    go false = refl
+
+nearest-cond : (set : NameSet) (z : Option (OpenNode ℕ)) (above : ℕ) → nearest_in set z above ≡ cond (holds_one (is_in set) z) (open_node z) above
+nearest-cond set None above = refl
+nearest-cond set (Some y) above = refl
+
+open-some : (set : NameSet) (z : Option (OpenNode ℕ)) → holds_one (is_in set) z ≡ true → 0 < open_node z
+open-some set None e = cc
+open-some set (Some y) e = omega arith
+
+module _ (set : NameSet) (ys : List (Option (OpenNode ℕ))) where
+  -- the place of the nearest of the first slots that holds one of the set, and the node there
+  abbrev place : ℕ → ℕ
+  place n = last_up (numbered 0) (map (member set) ys) n
+
+  abbrev node-of : ℕ → ℕ
+  node-of zero = 0
+  node-of (suc p) = open_node (get_or ys p None)
+
+  sought-at : (k : ℕ) → numbered 0 (get_or (map (member set) ys) k 0) ≡ holds_one (is_in set) (get_or ys k None)
+  sought-at k = ap (numbered 0) (map-at (member set) ys k None) ∙ member-sought set (get_or ys k None)
+
+  nearest-is : (n : ℕ) → nearest_up set ys n ≡ node-of (place n)
+  nearest-is zero = refl
+  nearest-is (suc n) =
+      nearest-cond set (get_or ys n None) (nearest_up set ys n) ∙ go (holds_one (is_in set) (get_or ys n None)) (nearest-is n)
+      ∙ ap (λ v. node-of (cond v (suc n) (place n))) (sym (sought-at n))
+    where
+      go : (v : Bool) → nearest_up set ys n ≡ node-of (place n)
+          → cond v (open_node (get_or ys n None)) (nearest_up set ys n) ≡ node-of (cond v (suc n) (place n))
+      go true e = refl
+      go false e = e
+
+  place-slots : (n : ℕ) → n ≤ length ys → place n ≡ last_place (holds_one (is_in set)) (reverse (take n ys))
+  place-slots n h =
+      last_up-is (numbered 0) (map (member set) ys) n (omega (arith, length-map ys (member set)))
+      ∙ ap (last_place (numbered 0)) (ap reverse (take-map (member set) n ys) ∙ reverse-map (member set) (take n ys))
+      ∙ place-map (member set) (numbered 0) (reverse (take n ys)) ∙ (λ i. last_place (λ z. member-sought set z i) (reverse (take n ys)))
 
 module _ (last : LastLevels) (items : List KeptNode) (s : LevelsStand last items) (set : NameSet) (n : ℕ)
     (kept : n ≡ nearest_up set (map opened_by items) (length items)) where
-  abbrev pub ys : List (Option (OpenNode ℕ))
+  abbrev ys : List (Option (OpenNode ℕ))
   ys = map opened_by items
 
-  abbrev pub ns : List ℕ
-  ns = nodes_in ys
+  abbrev ns : List ℕ
+  ns = slot_nodes ys
+
+  abbrev p : ℕ
+  p = place set ys (length items)
 
   long : length ys ≡ length items
   long = length-map items opened_by
 
   long-nodes : length ns ≡ length items
-  long-nodes = length-map ys node_in ∙ long
+  long-nodes = length-map ys open_node ∙ long
+
+  whole : p ≡ last_place (holds_one (is_in set)) (slots_of items)
+  whole = place-slots set ys (length items) (omega (arith, long))
+      ∙ ap (λ l. last_place (holds_one (is_in set)) (reverse l)) (take_all (length items) ys (omega (arith, long)))
+
+  node-at : 0 < p → n ≡ open_node (get_or ys (p - 1) None)
+  node-at h = let next : p ≡ suc (p - 1) = omega arith in kept ∙ nearest-is set ys (length items) ∙ ap (node-of set ys) next
 
   -- none is open where none is kept
   pub none-open : n ≡ 0 → 0 ≡ last_place (holds_one (is_in set)) (slots_of items)
-  none-open e = sym (place-none (holds_one (is_in set)) None ys (λ k h. nearest-none set ys (length items) (sym kept ∙ e) k (omega (arith, long))))
+  none-open e = none ∙ whole
+    where
+      none : 0 ≡ p
+      none = elim (cases_lt 0 p) as (λ _. 0 ≡ p) [
+        | inl less ↦ absurd (omega (
+          arith,
+          node-at less,
+          open-some set (get_or ys (p - 1) None) (sym (sought-at set ys (p - 1)) ∙ up-found (numbered 0) (map (member set) ys) (length items) less),
+        ))
+        | inr past ↦ omega arith
+      ]
 
   module _ (some : 0 < n) where
-    pub found : (j : ℕ) × (y : OpenNode ℕ) × IsNearest set ys (length items) j y
-    found = nearest-some set ys (length items) (omega (arith, kept))
-
-    abbrev pub nearest : ℕ
-    nearest = found.0
-
-    nearest-in : nearest < length items
-    nearest-in = found.2.within
-
     -- it is the node of the nearest slot of the set
-    node-is : get_or ns nearest 0 ≡ n
-    node-is = get_or-map node_in ys nearest None 0 (omega (arith, nearest-in, long)) ∙ ap node_in found.2.is ∙ sym (kept ∙ found.2.node)
+    found : 0 < p
+    found = elim (cases_lt 0 p) [
+      | inl less ↦ less
+      | inr past ↦ absurd (omega (arith, kept ∙ nearest-is set ys (length items) ∙ ap (node-of set ys) (let none : p ≡ 0 = omega arith in none)))
+    ]
 
-    place-is : last_place (holds_one (is_in set)) (slots_of items) ≡ suc nearest
-    place-is = place-at (holds_one (is_in set)) None ys nearest (omega (arith, nearest-in, long)) (ap (holds_one (is_in set)) found.2.is ∙ found.2.sought)
-        (λ k a b. found.2.past k a (omega (arith, long)))
+    place-within : p ≤ length items
+    place-within = up-within (numbered 0) (map (member set) ys) (length items)
 
     number : n ≡ suc (n - 1)
     number = omega arith
 
-    down : suc nearest ≤ last_up (numbered (n - 1)) ns (length ns)
-    down = up-least (numbered (n - 1)) ns (length ns) nearest (omega (arith, nearest-in, long-nodes)) (ap (numbered (n - 1)) (node-is ∙ number)
-        ∙ eqb-same (suc (n - 1)))
+    here : numbered (n - 1) (get_or ns (p - 1) 0) ≡ true
+    here = ap (numbered (n - 1)) (map-at open_node ys (p - 1) None ∙ sym (node-at found) ∙ number) ∙ eqb-same (suc (n - 1))
+
+    down : p ≤ last_up (numbered (n - 1)) ns (length ns)
+    down = omega (arith, found, up-least (numbered (n - 1)) ns (length ns) (p - 1) (omega (arith, found, place-within, long-nodes)) here)
 
     pub node-in : n - 1 < length last.nodes.items
     node-in = elim (cases_lt (n - 1) (length last.nodes.items)) [
       | inl less ↦ less
-      | inr past ↦ absurd (omega (arith, down, s.nodes.says (n - 1), get_or_past last.nodes.items (n - 1) 0 past))
+      | inr past ↦ absurd (omega (arith, found, down, s.nodes.says (n - 1), get_or_past last.nodes.items (n - 1) 0 past))
     ]
 
     -- the level of that node
@@ -58,34 +121,40 @@ module _ (last : LastLevels) (items : List KeptNode) (s : LevelsStand last items
       level-is : level ≡ last_up (numbered (n - 1)) ns (length ns)
       level-is = at ∙ get_or_default last.nodes.items (n - 1) level 0 node-in ∙ s.nodes.says (n - 1)
 
-      pub level-within : (0 < level) × (level ≤ length items) × (suc nearest ≤ level)
+      pub level-within : (0 < level) × (level ≤ length items) × (p ≤ level)
       level-within =
-          (omega (arith, down, level-is), omega (arith, level-is, long-nodes, up-within (numbered (n - 1)) ns (length ns)), omega (arith, down, level-is))
+          (omega (arith, found, down, level-is), omega (arith, level-is, long-nodes, up-within (numbered (n - 1)) ns (length ns)), omega (arith, down, level-is))
 
       -- the nearest of the set is there or above
       pub nearest-from : last_place (holds_one (is_in set)) (slots_of (take level items)) ≡ last_place (holds_one (is_in set)) (slots_of items)
       nearest-from =
           ap (λ l. last_place (holds_one (is_in set)) (reverse l)) (sym (take-map opened_by level items))
-          ∙ sym (place-less (holds_one (is_in set)) None ys level (length ys) (omega (arith, level-within.1, long)) (omega arith)
-          (λ k a b. found.2.past k (omega (arith, level-within.2)) (omega (arith, long))))
-          ∙ ap (λ l. last_place (holds_one (is_in set)) (reverse l)) (take_all (length ys) ys (omega arith))
+          ∙ sym (place-slots set ys level (omega (arith, level-within.1, long)))
+          ∙ sym (up-past (numbered 0) (map (member set) ys) level (length items) level-within.1 (λ j a b. none j a b (cases_Bool (numbered 0 (get_or (map (member set) ys) j 0)))))
+          ∙ whole
+        where
+          none : (j : ℕ) → level ≤ j → j < length items → (numbered 0 (get_or (map (member set) ys) j 0) ≡ true)
+              ⊎ (numbered 0 (get_or (map (member set) ys) j 0) ≡ false) → numbered 0 (get_or (map (member set) ys) j 0) ≡ false
+          none j a b (inl e) = absurd (omega (arith, level-within.2, up-least (numbered 0) (map (member set) ys) (length items) j b e))
+          none j a b (inr e) = e
 
       -- and it is there where the node is open once
       pub nearest-at : (d : KeptNode) → KeptNode.same_node (get_or items (level - 1) d) ≡ 0 → level ≡ last_place (holds_one (is_in set)) (slots_of items)
       nearest-at d once =
-          let e : level ≡ suc nearest = elim (cases_lt (suc nearest) level) [ inl more ↦ absurd (twice more) | inr less ↦ omega (arith, level-within.2) ] in
-          e ∙ sym place-is
+          let e : level ≡ p = elim (cases_lt p level) [ inl more ↦ absurd (twice more) | inr less ↦ omega (arith, level-within.2) ] in
+          e ∙ whole
         where
-          here : get_or ns (level - 1) 0 ≡ suc (n - 1)
-          here = ap (λ k. get_or ns (k - 1) 0) level-is
+          member-here : get_or ns (level - 1) 0 ≡ suc (n - 1)
+          member-here = ap (λ k. get_or ns (k - 1) 0) level-is
               ∙ eqb-true _ _ (up-found (numbered (n - 1)) ns (length ns) (omega (arith, level-is, level-within.0)))
 
-          twice : suc nearest < level → ⊥
+          twice : p < level → ⊥
           twice more = omega (
             arith,
+            found,
             kept-member last.nodes.items ns (map same_node_of items) s.nodes (level - 1) (omega (arith, level-within.0, level-within.1, long-nodes))
-                (n - 1) here,
+                (n - 1) member-here,
             get_or-map same_node_of items (level - 1) d 0 (omega (arith, level-within.0, level-within.1)),
             once,
-            up-least (numbered (n - 1)) ns (level - 1) nearest (omega (arith, more)) (ap (numbered (n - 1)) (node-is ∙ number) ∙ eqb-same (suc (n - 1))),
+            up-least (numbered (n - 1)) ns (level - 1) (p - 1) (omega (arith, found, more)) here,
           )

@@ -2,17 +2,9 @@
 use Rattle.hopen.proofs.Names.{get_or-set_same, refl, length-map, ◌≡◌, ◌≢◌, ℕ, zero, suc, ◌+◌, ◌-◌, ◌<◌, ◌≤◌, true, false, List, [], ◌∷◌, ◌++◌, length, take, set, get_or, min, subst, sym, ◌∙◌, ap, arith, All, length-append, map-append, take-map, map-set, length-set, length-take-le, get_or-set_other, All-append, All-take, All-set, entry_hash, none, EntryOf, IsStored, is_gone, item_of, AreSlotsListed, by_hash, by_name, by_node, number_by, numbers_by, unless_hole, Stored, Slots, max, is_some, get_or-take}
 use Rattle.hopen.specs.declared.entry.Slot.TheVariants as stored
 
--- Where only the hashes have changed, all else is as it was.
-pub all-but-hashes : (s t : Slots) (hashes : List ℕ) → t ≡ record s { hashes = hashes } → t ≡ record s { hashes = t.hashes }
-all-but-hashes s t hashes is = is ∙ ap (λ h. record s { hashes = h }) (sym (ap (λ x. x.hashes) is))
-
 -- there is a number for each item
 pub sized : (items : List Stored) (ns : List ℕ) (of : EntryOf ℕ → ℕ) (n : ℕ) → ns ≡ numbers_by of items → n ≡ length items → length ns ≡ n
 sized items ns of n is size = ap length is ∙ length-map items (λ i. number_by of (item_of i)) ∙ sym size
-
--- where the last of them goes, as many are left as where the last item goes
-pub take-last : (items : List Stored) (ns : List ℕ) (of : EntryOf ℕ → ℕ) → ns ≡ numbers_by of items → take (length ns - 1) ns ≡ take (length items - 1) ns
-take-last items ns of is = ap (λ k. take (k - 1) ns) (sized items ns of (length items) is refl)
 
 module _ (items : List Stored) (ns : List ℕ) (of : EntryOf ℕ → ℕ) (i : ℕ) (is : ns ≡ numbers_by of items) (within : i < length items) where
   pub numbered : i < length ns

@@ -1,257 +1,228 @@
--- The kept levels as slots come and go at the end of their vector.
-use Rattle.hopen.proofs.Names.{◌≡◌, ◌≢◌, ℕ, suc, ◌+◌, ◌-◌, ◌<◌, ◌≤◌, List, [], ◌∷◌, ◌++◌, Option, Some, None, length, map, take, drop, get_or, set, refl, sym, ◌∙◌, ap, subst, arith, transport, cases_lt, ◌⊎◌, inl, inr, length-append, length-map, length-set, map-append, take-map, get_or_append_left, get_or_push, take-more, drop-more, AreIn, IsLinked, KeepSets, LevelsStand, StandsAs, AreAlike, closing, closing_in, kept_kind_at, kept_kind, open_name, names_in, nearest_in, nearest_up, node_in, nodes_in, opened_by, same_name_of, same_node_of, sets_at, slots_of, stack_of, somes, IsInSets, OpenNode, KeptNode, LastLevels, Kind, set_node, NameSet, SetNodes, open_of, reverse_push, drop-map}
-use Rattle.hopen.proofs.Linked.{linked-gap, linked-hole, linked-in, linked-less, linked-more}
+-- The kept levels of the first slots of a vector, as one more comes and the last of them goes.
+use Rattle.hopen.proofs.Names.{◌≡◌, ◌≢◌, ℕ, suc, ◌+◌, ◌-◌, ◌<◌, ◌≤◌, List, [], ◌∷◌, ◌++◌, Option, Some, None, length, map, take, get_or, set, sym, ◌∙◌, ap, subst, arith, transport, length-map, length-set, length-take-le, take_all, take-map, get_or-take, get_or_default, ext_get_or, refl, Open, sum_by, sum_by_more, sum_by-le, AreAlike, AreAsLong, AreIn, HasRoom, IsBelow, IsIn, IsLinkedTo, KeepSetsTo, LevelsStand, LevelsTo, StandsTo, closing, kept_kind_at, kept_kind, open_name, open_node, slot_names, slot_nodes, nearest_in, nearest_up, is_hole_kind, opened_by, same_name_of, same_node_of, sets_at, stack_of, somes, slots_of, OpenNode, KeptNode, LastLevels, Kind, set_node, NameSet, open_of, reverse_push}
+use Rattle.hopen.specs.declared.kept.Kind.TheVariants as kind
+use Rattle.std.proofs.Math.ListN.{get_or-map}
+use Rattle.hopen.proofs.Held.{below-held, no-node}
+use Rattle.hopen.proofs.Linked.{either, linked-front, linked-gap, linked-hole, linked-in, linked-less, linked-more}
 use Rattle.hopen.proofs.NearestUp.{nearest-alike}
-
--- the last slot of a vector
-pub slots-more : (items : List KeptNode) (x : KeptNode) → slots_of (items ++ x ∷ []) ≡ opened_by x ∷ slots_of items
-slots-more items x = reverse_push opened_by items x
+use Rattle.hopen.proofs.Projected.{length-names, length-nodes, part-at, part-of}
+use Rattle.hopen.proofs.Swapped.{walk-in}
 
 pub stack-more : (items : List KeptNode) (x : KeptNode) (y : OpenNode ℕ) → opened_by x ≡ Some y → stack_of (items ++ x ∷ []) ≡ y ∷ stack_of items
-stack-more items x y e = ap somes (slots-more items x) ∙ ap (λ o. somes (o ∷ slots_of items)) e
-
-pub stack-hole : (items : List KeptNode) (x : KeptNode) → opened_by x ≡ None → stack_of (items ++ x ∷ []) ≡ stack_of items
-stack-hole items x e = ap somes (slots-more items x) ∙ ap (λ o. somes (o ∷ slots_of items)) e
-
--- how many must be closed
-pub closing-more : (ks : List Kind) (k : Kind) → closing_in (ks ++ k ∷ []) ≡ closing_in ks + closing k
-closing-more [] k = omega arith
-closing-more (j ∷ ks) k = omega (arith, closing-more ks k)
+stack-more items x y e = ap somes (reverse_push opened_by items x) ∙ ap (λ o. somes (o ∷ slots_of items)) e
 
 pub one-closes : (k : Kind) → closing k ≤ 1
 one-closes k = grind arith
 
-pub few-close : (ks : List Kind) → closing_in ks ≤ length ks
-few-close [] = omega arith
-few-close (k ∷ ks) = omega (arith, few-close ks, one-closes k)
+module _ (last : LastLevels) (items : List KeptNode) where
+  abbrev ys : List (Option (OpenNode ℕ))
+  ys = map opened_by items
 
--- two lists that are alike, but for their last member
-unpush : {X : Type 0} (xs ys : List X) (a b : X) → xs ++ a ∷ [] ≡ ys ++ b ∷ [] → length xs ≡ length ys → (xs ≡ ys) × (a ≡ b)
-unpush [] [] a b e h = (refl, grind arith)
-unpush [] (y ∷ ys) a b e h = absurd (omega arith)
-unpush (x ∷ xs) [] a b e h = absurd (omega arith)
-unpush (x ∷ xs) (y ∷ ys) a b e h = grind (arith, unpush xs ys a b)
+  abbrev ks : List Kind
+  ks = map kept_kind_at items
 
--- one slot more
-module _ (ys : List (Option (OpenNode ℕ))) (sets : List SetNodes) (long : length sets ≡ length ys) (y : Option (OpenNode ℕ)) (p : SetNodes) where
-  pub sets-less : KeepSets (ys ++ y ∷ []) (sets ++ p ∷ []) → KeepSets ys sets
-  sets-less k set m h live =
-      let more : length (ys ++ y ∷ []) ≡ length ys + 1 = length-append ys (y ∷ []) in
-      sym (ap (λ l. get_or l m 0) (map-append (set_node set) sets (p ∷ [])) ∙ get_or_append_left (map (set_node set) sets) (set_node set p ∷ []) 0 m
-      (omega (arith, length-map sets (set_node set))))
-      ∙ k set m (omega arith) (λ e. live (sym (get_or_append_left ys (y ∷ []) None m h) ∙ e))
-      ∙ nearest-alike set ys (ys ++ y ∷ []) (suc m) (λ j less. get_or_append_left ys (y ∷ []) None j (omega arith))
+  -- as few must be closed as there are slots
+  pub few-closed : (n : ℕ) → n ≤ length items → LevelsTo n last items → last.must_close ≤ n
+  few-closed n h s =
+      let few = sum_by-le closing 1 (take n ks) (λ j d less. one-closes (get_or (take n ks) j d)) in
+      omega (arith, s.closes, few, length-take-le n ks (omega (arith, length-map items kept_kind_at)))
 
-  pub sets-more : ((set : NameSet) → y ≢ None → set_node set p ≡ nearest_in set y (nearest_up set ys (length ys))) → KeepSets ys sets
-      → KeepSets (ys ++ y ∷ []) (sets ++ p ∷ [])
-  sets-more new k set m h live = go (cases_lt m (length ys))
+  -- what stands of all slots
+  pub stands-to : LevelsStand last items → LevelsTo (length items) last items
+  stands-to s = record {
+    names = subst (λ n. IsLinkedTo n last.names.items (slot_names ys) (map same_name_of items)) (length-names items) s.names;
+    nodes = subst (λ n. IsLinkedTo n last.nodes.items (slot_nodes ys) (map same_node_of items)) (length-nodes items) s.nodes;
+    sets = subst (λ n. KeepSetsTo n ys (map sets_at items)) (length-map items opened_by) s.sets;
+    kinds = λ j h. ap (λ l. get_or l j kind.Hole) s.kinds ∙ get_or-map kept_kind ys j None;
+    closes = s.closes ∙ ap (sum_by closing) (sym (take_all (length items) ks (omega (arith, length-map items kept_kind_at))));
+    fits = s.fits;
+  }
+
+  pub to-stands : (n : ℕ) → n ≡ length items → LevelsTo n last items → LevelsStand last items
+  to-stands n all s = record {
+    names = subst (λ n. IsLinkedTo n last.names.items (slot_names ys) (map same_name_of items)) (all ∙ sym (length-names items)) s.names;
+    nodes = subst (λ n. IsLinkedTo n last.nodes.items (slot_nodes ys) (map same_node_of items)) (all ∙ sym (length-nodes items)) s.nodes;
+    sets = subst (λ n. KeepSetsTo n ys (map sets_at items)) (all ∙ sym (length-map items opened_by)) s.sets;
+    kinds = ext_get_or kind.Hole ks (map kept_kind ys) (length-map items kept_kind_at ∙ sym (length-map ys kept_kind ∙ length-map items opened_by))
+        (λ j h. s.kinds j (omega (arith, length-map items kept_kind_at)) ∙ sym (get_or-map kept_kind ys j None));
+    closes = s.closes ∙ ap (sum_by closing) (take_all n ks (omega (arith, length-map items kept_kind_at)));
+    fits = s.fits;
+  }
+
+  -- the tables have the numbers of all slots
+  pub stands-in : LevelsStand last items → AreIn last ys
+  stands-in s i d h = go (get_or ys i d) (λ g. get_or-map g ys i None ∙ ap g (get_or_default ys i None d h))
     where
-      more : length (ys ++ y ∷ []) ≡ length ys + 1
-      more = length-append ys (y ∷ [])
-
-      same : (n : ℕ) → n ≤ length ys → nearest_up set (ys ++ y ∷ []) n ≡ nearest_up set ys n
-      same n h = nearest-alike set ys (ys ++ y ∷ []) n (λ j less. get_or_append_left ys (y ∷ []) None j (omega arith))
-
-      go : (m < length ys) ⊎ (length ys ≤ m) → get_or (map (set_node set) (sets ++ p ∷ [])) m 0 ≡ nearest_up set (ys ++ y ∷ []) (suc m)
-      go (inl less) =
-          ap (λ l. get_or l m 0) (map-append (set_node set) sets (p ∷ [])) ∙ get_or_append_left (map (set_node set) sets) (set_node set p ∷ []) 0 m
-          (omega (arith, length-map sets (set_node set)))
-          ∙ k set m less (λ e. live (get_or_append_left ys (y ∷ []) None m less ∙ e)) ∙ sym (same (suc m) (omega arith))
-      go (inr past) =
-          let at : length ys ≡ m = omega (arith, more) in
-          let here : get_or (ys ++ y ∷ []) m None ≡ y = get_or_push ys y None m at in
-          ap (λ l. get_or l m 0) (map-append (set_node set) sets (p ∷ [])) ∙ get_or_push (map (set_node set) sets) (set_node set p) 0 m
-          (omega (arith, length-map sets (set_node set)))
-          ∙ new set (λ e. live (here ∙ e)) ∙ ap (nearest_in set y) (sym (same (length ys) (omega arith)))
-          ∙ ap (λ n. nearest_in set y (nearest_up set (ys ++ y ∷ []) n)) at
-          ∙ ap (λ z. nearest_in set z (nearest_up set (ys ++ y ∷ []) m)) (sym here)
-
-module _ (items : List KeptNode) (x : KeptNode) where
-  each : {X : Type 0} (f : KeptNode → X) → map f (items ++ x ∷ []) ≡ map f items ++ f x ∷ []
-  each f = map-append f items (x ∷ [])
-
-  numbers : (f : Option (OpenNode ℕ) → ℕ) → map f (map opened_by (items ++ x ∷ [])) ≡ map f (map opened_by items) ++ f (opened_by x) ∷ []
-  numbers f = ap (map f) (map-append opened_by items (x ∷ [])) ∙ map-append f (map opened_by items) (opened_by x ∷ [])
-
-  long : {X Y : Type 0} (f : KeptNode → X) (g : Option (OpenNode ℕ) → Y) → length (map f items) ≡ length (map g (map opened_by items))
-  long f g = length-map items f ∙ sym (length-map (map opened_by items) g ∙ length-map items opened_by)
-
-  module _ (last : LastLevels) (s : LevelsStand last (items ++ x ∷ [])) where
-    linked-names : IsLinked last.names.items (names_in (map opened_by items) ++ open_name (opened_by x) ∷ []) (map same_name_of items ++ x.same_name ∷ [])
-    linked-names = transport (λ t. IsLinked last.names.items (numbers open_name t) (each same_name_of t)) s.names
-
-    linked-nodes : IsLinked last.nodes.items (nodes_in (map opened_by items) ++ node_in (opened_by x) ∷ []) (map same_node_of items ++ x.same_node ∷ [])
-    linked-nodes = transport (λ t. IsLinked last.nodes.items (numbers node_in t) (each same_node_of t)) s.nodes
-
-    left-sets : KeepSets (map opened_by items) (map sets_at items)
-    left-sets =
-        sets-less (map opened_by items) (map sets_at items) (length-map items sets_at ∙ sym (length-map items opened_by)) (opened_by x) x.sets
-        (transport (λ t. KeepSets (each opened_by t) (each sets_at t)) s.sets)
-
-    kinds : (map kept_kind_at items ≡ map kept_kind (map opened_by items)) × (x.kind ≡ kept_kind (opened_by x))
-    kinds = unpush (map kept_kind_at items) (map kept_kind (map opened_by items)) x.kind (kept_kind (opened_by x)) (sym (each kept_kind_at) ∙ s.kinds ∙ map-map-more)
-        (long kept_kind_at kept_kind)
-      where
-        map-map-more : map kept_kind (map opened_by (items ++ x ∷ [])) ≡ map kept_kind (map opened_by items) ++ kept_kind (opened_by x) ∷ []
-        map-map-more = ap (map kept_kind) (map-append opened_by items (x ∷ [])) ∙ map-append kept_kind (map opened_by items) (opened_by x ∷ [])
-
-    closes : last.must_close ≡ closing_in (map kept_kind_at items) + closing x.kind
-    closes = s.closes ∙ ap closing_in (each kept_kind_at) ∙ closing-more (map kept_kind_at items) x.kind
-
-    -- the last slot is a hole, and goes
-    pub stands-hole : opened_by x ≡ None → LevelsStand last items
-    stands-hole gone = record {
-      names = linked-hole last.names.items (names_in (map opened_by items)) (map same_name_of items) x.same_name (long same_name_of open_name)
-          (subst (λ o. IsLinked last.names.items (names_in (map opened_by items) ++ open_name o ∷ []) (map same_name_of items ++ x.same_name ∷ [])) gone
-          linked-names);
-      nodes = linked-hole last.nodes.items (nodes_in (map opened_by items)) (map same_node_of items) x.same_node (long same_node_of node_in)
-          (subst (λ o. IsLinked last.nodes.items (nodes_in (map opened_by items) ++ node_in o ∷ []) (map same_node_of items ++ x.same_node ∷ [])) gone
-          linked-nodes);
-      sets = left-sets;
-      kinds = kinds.0;
-      closes = omega (arith, closes, ap closing (kinds.1 ∙ ap kept_kind gone));
-      fits = s.fits;
-    }
-
-    module _ (live : opened_by x ≡ Some (open_of x.opened)) where
-      names-live : IsLinked last.names.items (names_in (map opened_by items) ++ suc x.opened.name ∷ []) (map same_name_of items ++ x.same_name ∷ [])
-      names-live = subst (λ o. IsLinked last.names.items (names_in (map opened_by items) ++ open_name o ∷ []) (map same_name_of items ++ x.same_name ∷ []))
-          live linked-names
-
-      nodes-live : IsLinked last.nodes.items (nodes_in (map opened_by items) ++ suc x.opened.node ∷ []) (map same_node_of items ++ x.same_node ∷ [])
-      nodes-live = subst (λ o. IsLinked last.nodes.items (nodes_in (map opened_by items) ++ node_in o ∷ []) (map same_node_of items ++ x.same_node ∷ []))
-          live linked-nodes
-
-      -- the tables have the numbers of its node
-      pub stands-in : (x.opened.name < length last.names.items) × (x.opened.node < length last.nodes.items)
-      stands-in = (
-        linked-in last.names.items (names_in (map opened_by items)) (map same_name_of items ++ x.same_name ∷ []) x.opened.name names-live,
-        linked-in last.nodes.items (nodes_in (map opened_by items)) (map same_node_of items ++ x.same_node ∷ []) x.opened.node nodes-live,
+      go : (z : Option (OpenNode ℕ)) → ((g : Option (OpenNode ℕ) → ℕ) → get_or (map g ys) i (g None) ≡ g z) → IsIn last z
+      go None is = tt
+      go (Some y) is = (
+        walk-in last.names.items (slot_names ys) (map same_name_of items) s.names i y.name (is open_name) (omega (arith, length-map ys open_name)),
+        walk-in last.nodes.items (slot_nodes ys) (map same_node_of items) s.nodes i y.node (is open_node) (omega (arith, length-map ys open_node)),
       )
 
-      pub stands-counted : closing x.kind ≤ last.must_close
-      stands-counted = omega (arith, closes)
+pub in-as-long : (last next : LastLevels) → AreAsLong next last → (ys : List (Option (OpenNode ℕ))) → AreIn last ys → AreIn next ys
+in-as-long last next long ys all i d h = go (get_or ys i d) (all i d h)
+  where
+    go : (z : Option (OpenNode ℕ)) → IsIn last z → IsIn next z
+    go None is = tt
+    go (Some y) is = (omega (arith, is.0, long.names), omega (arith, is.1, long.nodes))
 
-      -- and the slot goes
-      pub stands-less : (next : LastLevels) → next.names.items ≡ set last.names.items x.opened.name x.same_name
-          → next.nodes.items ≡ set last.nodes.items x.opened.node x.same_node
-          → next.must_close ≡ last.must_close - closing x.kind → LevelsStand next items
-      stands-less next names nodes must_close = record {
-        names = rw names (linked-less last.names.items (names_in (map opened_by items)) (map same_name_of items) x.opened.name x.same_name
-            (long same_name_of open_name) names-live);
-        nodes = rw nodes (linked-less last.nodes.items (nodes_in (map opened_by items)) (map same_node_of items) x.opened.node x.same_node
-            (long same_node_of node_in) nodes-live);
-        sets = left-sets;
-        kinds = kinds.0;
-        closes = omega (arith, closes, must_close);
-        fits = omega (arith, s.fits, ap length nodes, length-set last.nodes.items x.opened.node x.same_node);
-      }
+-- a slot right below others, where these begin alike
+pub below-front : (last : LastLevels) (ys zs : List (Option (OpenNode ℕ))) (n : ℕ) (new : Open) (x : KeptNode) → IsBelow last ys n new x
+    → ((j : ℕ) → j < n → get_or zs j None ≡ get_or ys j None) → IsBelow last zs n x.opened x
+below-front last ys zs n new x b same =
+    let own : IsBelow last ys n x.opened x = subst (λ (o : Open). IsBelow last ys n o x) (sym b.opened) b in
+    record {
+      opened = refl;
+      same_name = own.same_name;
+      same_node = own.same_node;
+      sets = λ set. own.sets set ∙ ap (nearest_in set (Some (open_of x.opened))) (sym (nearest-alike set ys zs n same));
+      kind = own.kind;
+    }
 
-  module _ (last : LastLevels) (s : LevelsStand last items) where
-    more-kinds : x.kind ≡ kept_kind (opened_by x) → map kept_kind_at (items ++ x ∷ []) ≡ map kept_kind (map opened_by (items ++ x ∷ []))
-    more-kinds e =
-        each kept_kind_at ∙ (λ t. s.kinds t ++ e t ∷ []) ∙ sym (ap (map kept_kind) (map-append opened_by items (x ∷ []))
-        ∙ map-append kept_kind (map opened_by items) (opened_by x ∷ []))
+-- items that keep the same, but for hints
+pub levels-alike : (n : ℕ) (last : LastLevels) (xs ys : List KeptNode) → AreAlike xs ys → LevelsTo n last ys → LevelsTo n last xs
+levels-alike n last xs ys a s = transport (λ t. StandsTo n last (sym a.rest.opened t) (sym a.same_names t) (sym a.rest.same_nodes t) (sym a.rest.sets t)
+    (sym a.rest.kinds t)) s
 
-    more-sets : ((set : NameSet) → opened_by x ≢ None → set_node set x.sets ≡ nearest_in set (opened_by x)
-        (nearest_up set (map opened_by items) (length (map opened_by items))))
-        → KeepSets (map opened_by (items ++ x ∷ [])) (map sets_at (items ++ x ∷ []))
-    more-sets keeps = transport (λ t. KeepSets (sym (each opened_by) t) (sym (each sets_at) t))
-        (sets-more (map opened_by items) (map sets_at items) (length-map items sets_at ∙ sym (length-map items opened_by)) (opened_by x) x.sets keeps s.sets)
+-- items that begin alike
+module _ (n : ℕ) (last : LastLevels) (xs ys : List KeptNode) (same : take n xs ≡ take n ys) where
+  front : {X : Type 0} (f : KeptNode → X) → take n (map f xs) ≡ take n (map f ys)
+  front f = take-map f n xs ∙ ap (map f) same ∙ sym (take-map f n ys)
+
+  front-of : {X Y : Type 0} (g : X → Y) (f : KeptNode → X) → take n (map g (map f xs)) ≡ take n (map g (map f ys))
+  front-of g f = take-map g n (map f xs) ∙ ap (map g) (front f) ∙ sym (take-map g n (map f ys))
+
+  at : {X : Type 0} (us vs : List X) → take n us ≡ take n vs → (d : X) (j : ℕ) → j < n → get_or us j d ≡ get_or vs j d
+  at us vs e d j h = sym (get_or-take n us j d h) ∙ ap (λ l. get_or l j d) e ∙ get_or-take n vs j d h
+
+  opened-front : (j : ℕ) → j < n → get_or (map opened_by xs) j None ≡ get_or (map opened_by ys) j None
+  opened-front = at (map opened_by xs) (map opened_by ys) (front opened_by) None
+
+  pub levels-front : LevelsTo n last ys → LevelsTo n last xs
+  levels-front s = record {
+    names = linked-front last.names.items (slot_names (map opened_by ys)) (map same_name_of ys) n (slot_names (map opened_by xs)) (map same_name_of xs)
+        (at (slot_names (map opened_by xs)) (slot_names (map opened_by ys)) (front-of open_name opened_by) 0)
+        (at (map same_name_of xs) (map same_name_of ys) (front same_name_of) 0) s.names;
+    nodes = linked-front last.nodes.items (slot_nodes (map opened_by ys)) (map same_node_of ys) n (slot_nodes (map opened_by xs)) (map same_node_of xs)
+        (at (slot_nodes (map opened_by xs)) (slot_nodes (map opened_by ys)) (front-of open_node opened_by) 0)
+        (at (map same_node_of xs) (map same_node_of ys) (front same_node_of) 0) s.nodes;
+    sets = λ set m h live.
+        at (map (set_node set) (map sets_at xs)) (map (set_node set) (map sets_at ys)) (front-of (set_node set) sets_at) 0 m h
+        ∙ s.sets set m h (λ e. live (opened-front m h ∙ e))
+        ∙ nearest-alike set (map opened_by xs) (map opened_by ys) (suc m) (λ j less. sym (opened-front j (omega arith)));
+    kinds = λ j h. at (map kept_kind_at xs) (map kept_kind_at ys) (front kept_kind_at) kind.Hole j h ∙ s.kinds j h ∙ ap kept_kind (sym (opened-front j h));
+    closes = s.closes ∙ ap (sum_by closing) (sym (front kept_kind_at));
+    fits = s.fits;
+  }
+
+-- a slot of a vector, right below the first ones
+module _ (items : List KeptNode) (i : ℕ) (within : i < length items) (last : LastLevels) where
+  abbrev zs : List (Option (OpenNode ℕ))
+  zs = map opened_by items
+
+  abbrev kinds : List Kind
+  kinds = map kept_kind_at items
+
+  closes-more : sum_by closing (take (suc i) kinds) ≡ sum_by closing (take i kinds) + closing (get_or kinds i kind.Hole)
+  closes-more =
+      let one : suc i ≡ i + 1 = omega arith in
+      ap (λ k. sum_by closing (take k kinds)) one ∙ sum_by_more closing kinds i kind.Hole (omega (arith, length-map items kept_kind_at))
+
+  -- a hole goes
+  pub levels-hole : LevelsTo (suc i) last items → get_or zs i None ≡ None → LevelsTo i last items
+  levels-hole s gone = record {
+    names = linked-hole last.names.items (slot_names zs) (map same_name_of items) i (get_or-map open_name zs i None ∙ ap open_name gone) s.names;
+    nodes = linked-hole last.nodes.items (slot_nodes zs) (map same_node_of items) i (get_or-map open_node zs i None ∙ ap open_node gone) s.nodes;
+    sets = λ set m h. s.sets set m (omega arith);
+    kinds = λ j h. s.kinds j (omega arith);
+    closes = omega (arith, s.closes, closes-more, ap closing (s.kinds i (omega arith) ∙ ap kept_kind gone));
+    fits = s.fits;
+  }
+
+  module _ (x : KeptNode) (is : x ≡ get_or items i x) where
+    slot : get_or zs i None ≡ opened_by x
+    slot = part-at opened_by None items i x within is
+
+    kind-at : get_or kinds i kind.Hole ≡ x.kind
+    kind-at = part-at kept_kind_at kind.Hole items i x within is
+
+    -- what holds of the first slots, and of the next one, holds of all of them
+    kinds-next : ((j : ℕ) → j < i → get_or kinds j kind.Hole ≡ kept_kind (get_or zs j None)) → x.kind ≡ kept_kind (opened_by x)
+        → (j : ℕ) → j < suc i → get_or kinds j kind.Hole ≡ kept_kind (get_or zs j None)
+    kinds-next below here j h = either (λ m. get_or kinds m kind.Hole ≡ kept_kind (get_or zs m None)) i j
+        (kind-at ∙ here ∙ ap kept_kind (sym slot)) (λ ne. below j (omega arith))
+
+    sets-next : KeepSetsTo i zs (map sets_at items) → ((set : NameSet) → get_or zs i None ≢ None → set_node set x.sets ≡ nearest_up set zs (suc i))
+        → KeepSetsTo (suc i) zs (map sets_at items)
+    sets-next below here set m h = either (λ m. get_or zs m None ≢ None → get_or (map (set_node set) (map sets_at items)) m 0 ≡ nearest_up set zs (suc m)) i m
+        (λ live. part-of (set_node set) sets_at 0 items i x within is ∙ here set live) (λ ne. below set m (omega arith))
 
     -- a hole comes
-    pub stands-gap : opened_by x ≡ None → x.kind ≡ kept_kind None → x.same_name ≡ 0 → x.same_node ≡ 0 → LevelsStand last (items ++ x ∷ [])
-    stands-gap gone kind same_name same_node = record {
-      names = transport (λ t. IsLinked last.names.items (sym (numbers open_name ∙ ap (λ o. names_in (map opened_by items) ++ open_name o ∷ []) gone) t)
-          (sym (each same_name_of ∙ ap (λ n. map same_name_of items ++ n ∷ []) same_name) t))
-          (linked-gap last.names.items (names_in (map opened_by items)) (map same_name_of items) (long same_name_of open_name) s.names);
-      nodes = transport (λ t. IsLinked last.nodes.items (sym (numbers node_in ∙ ap (λ o. nodes_in (map opened_by items) ++ node_in o ∷ []) gone) t)
-          (sym (each same_node_of ∙ ap (λ n. map same_node_of items ++ n ∷ []) same_node) t))
-          (linked-gap last.nodes.items (nodes_in (map opened_by items)) (map same_node_of items) (long same_node_of node_in) s.nodes);
-      sets = more-sets (λ set ne. absurd (ne gone));
-      kinds = more-kinds (kind ∙ ap kept_kind (sym gone));
-      closes = omega (arith, s.closes, ap closing_in (each kept_kind_at), closing-more (map kept_kind_at items) x.kind, ap closing kind);
-      fits = s.fits;
-    }
+    pub levels-gap : x.kind ≡ kind.Hole → x.same_name ≡ 0 → x.same_node ≡ 0 → LevelsTo i last items → LevelsTo (suc i) last items
+    levels-gap hole same_name same_node s =
+        let gone : opened_by x ≡ None = no-node x (ap is_hole_kind hole) in
+        record {
+          names = linked-gap last.names.items (slot_names zs) (map same_name_of items) i (get_or-map open_name zs i None ∙ ap open_name (slot ∙ gone))
+              (part-at same_name_of 0 items i x within is ∙ same_name) s.names;
+          nodes = linked-gap last.nodes.items (slot_nodes zs) (map same_node_of items) i (get_or-map open_node zs i None ∙ ap open_node (slot ∙ gone))
+              (part-at same_node_of 0 items i x within is ∙ same_node) s.nodes;
+          sets = sets-next s.sets (λ set live. absurd (live (slot ∙ gone)));
+          kinds = kinds-next s.kinds (hole ∙ ap kept_kind (sym gone));
+          closes = omega (arith, s.closes, closes-more, ap closing (kind-at ∙ hole));
+          fits = s.fits;
+        }
 
     -- a node comes, with what the tables say
-    pub stands-more : (level : ℕ) → level ≡ suc (length items) → opened_by x ≡ Some (open_of x.opened) → x.kind ≡ kept_kind (Some (open_of x.opened))
-        → x.opened.name < length last.names.items → x.opened.node < length last.nodes.items
-        → x.same_name ≡ get_or last.names.items x.opened.name 0 → x.same_node ≡ get_or last.nodes.items x.opened.node 0
-        → ((set : NameSet) → set_node set x.sets ≡ nearest_in set (Some (open_of x.opened)) (nearest_up set (map opened_by items) (length items)))
-        → (next : LastLevels) → next.names.items ≡ set last.names.items x.opened.name level → next.nodes.items ≡ set last.nodes.items x.opened.node level
-        → next.must_close ≡ last.must_close + closing x.kind → LevelsStand next (items ++ x ∷ [])
-    stands-more level is live kind name_in' node_in' same_name same_node keeps next names nodes must_close = record {
-      names = rw names (transport (λ t. IsLinked (set last.names.items x.opened.name level)
-          (sym (numbers open_name ∙ ap (λ o. names_in (map opened_by items) ++ open_name o ∷ []) live) t) (sym (each same_name_of) t))
-          (linked-more last.names.items (names_in (map opened_by items)) (map same_name_of items) x.opened.name x.same_name level
-          (omega (arith, is, long same_name_of open_name, length-map items same_name_of)) same_name (long same_name_of open_name) name_in' s.names));
-      nodes = rw nodes (transport (λ t. IsLinked (set last.nodes.items x.opened.node level)
-          (sym (numbers node_in ∙ ap (λ o. nodes_in (map opened_by items) ++ node_in o ∷ []) live) t) (sym (each same_node_of) t))
-          (linked-more last.nodes.items (nodes_in (map opened_by items)) (map same_node_of items) x.opened.node x.same_node level
-          (omega (arith, is, long same_node_of node_in, length-map items same_node_of)) same_node (long same_node_of node_in) node_in' s.nodes));
-      sets = more-sets (λ set ne. keeps set ∙ ap (λ n. nearest_in set (Some (open_of x.opened)) (nearest_up set (map opened_by items) n))
-          (sym (length-map items opened_by)) ∙ ap (λ o. nearest_in set o (nearest_up set (map opened_by items) (length (map opened_by items)))) (sym live));
-      kinds = more-kinds (kind ∙ ap kept_kind (sym live));
-      closes = omega (arith, s.closes, ap closing_in (each kept_kind_at), closing-more (map kept_kind_at items) x.kind, must_close);
-      fits = omega (arith, s.fits, ap length nodes, length-set last.nodes.items x.opened.node level);
-    }
+    pub levels-more : (next : LastLevels) (level : ℕ) → level ≡ suc i → IsBelow last zs i x.opened x → HasRoom last x.opened
+        → next.names.items ≡ set last.names.items x.opened.name level → next.nodes.items ≡ set last.nodes.items x.opened.node level
+        → next.must_close ≡ last.must_close + closing x.kind → LevelsTo i last items → LevelsTo (suc i) next items
+    levels-more next level at below room names nodes closes s =
+        let held : opened_by x ≡ Some (open_of x.opened) = below-held last zs i x.opened x below in
+        let live : get_or zs i None ≡ Some (open_of x.opened) = slot ∙ held in
+        record {
+          names = subst (λ (t : List ℕ). IsLinkedTo (suc i) t (slot_names zs) (map same_name_of items))
+              (sym (names ∙ ap (set last.names.items x.opened.name) at))
+              (linked-more last.names.items (slot_names zs) (map same_name_of items) i x.opened.name (get_or-map open_name zs i None ∙ ap open_name live)
+              room.0 (part-at same_name_of 0 items i x within is ∙ below.same_name) s.names);
+          nodes = subst (λ (t : List ℕ). IsLinkedTo (suc i) t (slot_nodes zs) (map same_node_of items))
+              (sym (nodes ∙ ap (set last.nodes.items x.opened.node) at))
+              (linked-more last.nodes.items (slot_nodes zs) (map same_node_of items) i x.opened.node (get_or-map open_node zs i None ∙ ap open_node live)
+              room.1 (part-at same_node_of 0 items i x within is ∙ below.same_node) s.nodes);
+          sets = sets-next s.sets (λ set _. below.sets set ∙ ap (λ o. nearest_in set o (nearest_up set zs i)) (sym live));
+          kinds = kinds-next s.kinds (below.kind ∙ ap kept_kind (sym held));
+          closes = omega (arith, closes, s.closes, closes-more, ap closing kind-at);
+          fits = omega (arith, s.fits, ap length nodes, length-set last.nodes.items x.opened.node level);
+        }
 
--- one item of a vector, and those above it
-module _ (items : List KeptNode) (n j : ℕ) (x : KeptNode) (next : n ≡ suc j) (within : j < length items) (is : x ≡ get_or items j x) where
-  taken : (last : LastLevels) → LevelsStand last (take n items) → LevelsStand last (take j items ++ x ∷ [])
-  taken last s = subst (λ (xs : List KeptNode). LevelsStand last xs) (take-more items n j x next within is) s
+    -- a node goes
+    module _ (s : LevelsTo (suc i) last items) (live : opened_by x ≡ Some (open_of x.opened)) where
+      name-here : get_or (slot_names zs) i 0 ≡ suc x.opened.name
+      name-here = get_or-map open_name zs i None ∙ ap open_name (slot ∙ live)
 
-  pub taken-hole : (last : LastLevels) → LevelsStand last (take n items) → opened_by x ≡ None → LevelsStand last (take j items)
-  taken-hole last s gone = stands-hole (take j items) x last (taken last s) gone
+      node-here : get_or (slot_nodes zs) i 0 ≡ suc x.opened.node
+      node-here = get_or-map open_node zs i None ∙ ap open_node (slot ∙ live)
 
-  pub taken-in : (last : LastLevels) → LevelsStand last (take n items) → opened_by x ≡ Some (open_of x.opened)
-      → (x.opened.name < length last.names.items) × (x.opened.node < length last.nodes.items)
-  taken-in last s live = stands-in (take j items) x last (taken last s) live
+      pub levels-in : HasRoom last x.opened
+      levels-in = (
+        linked-in last.names.items (slot_names zs) (map same_name_of items) i x.opened.name name-here s.names,
+        linked-in last.nodes.items (slot_nodes zs) (map same_node_of items) i x.opened.node node-here s.nodes,
+      )
 
-  pub taken-counted : (last : LastLevels) → LevelsStand last (take n items) → opened_by x ≡ Some (open_of x.opened) → closing x.kind ≤ last.must_close
-  taken-counted last s live = stands-counted (take j items) x last (taken last s) live
+      pub levels-counted : closing x.kind ≤ last.must_close
+      levels-counted = omega (arith, s.closes, closes-more, ap closing kind-at)
 
-  pub taken-less : (last next : LastLevels) → LevelsStand last (take n items) → opened_by x ≡ Some (open_of x.opened)
-      → next.names.items ≡ set last.names.items x.opened.name x.same_name
-      → next.nodes.items ≡ set last.nodes.items x.opened.node x.same_node → next.must_close ≡ last.must_close - closing x.kind → LevelsStand next (take j items)
-  taken-less last left s live names nodes must_close = stands-less (take j items) x last (taken last s) live left names nodes must_close
-
-  pub numbers-more : (names nodes : ℕ) → AreIn names nodes (map opened_by (drop n items)) → IsInSets names nodes (opened_by x)
-      → AreIn names nodes (map opened_by (drop j items))
-  numbers-more names nodes rest here = subst (λ (xs : List KeptNode). AreIn names nodes (map opened_by xs)) (sym (drop-more items n j x next within is))
-      (here, rest)
-
-  pub numbers-less : (names nodes : ℕ) → AreIn names nodes (map opened_by (drop j items))
-      → IsInSets names nodes (opened_by x) × AreIn names nodes (map opened_by (drop n items))
-  numbers-less names nodes all = subst (λ (xs : List KeptNode). AreIn names nodes (map opened_by xs)) (drop-more items n j x next within is) all
-
--- where the same nodes are open, their numbers are in the tables
-pub numbers-alike : (n : ℕ) (xs ys : List KeptNode) (names nodes : ℕ) → map opened_by xs ≡ map opened_by ys → AreIn names nodes (map opened_by (drop n ys))
-    → AreIn names nodes (map opened_by (drop n xs))
-numbers-alike n xs ys names nodes e all = subst (AreIn names nodes) (sym (drop-map opened_by n ys) ∙ ap (drop n) (sym e) ∙ drop-map opened_by n xs) all
-
--- items that keep the same stand alike
-module _ (last : LastLevels) (xs ys : List KeptNode) (a : AreAlike xs ys) where
-  pub stands-alike : LevelsStand last ys → LevelsStand last xs
-  stands-alike s = transport (λ t. StandsAs last (sym a.rest.opened t) (sym a.same_names t) (sym a.rest.same_nodes t) (sym a.rest.sets t)
-      (sym a.rest.kinds t)) s
-
-  pub alike-take : (n : ℕ) → AreAlike (take n xs) (take n ys)
-  alike-take n = record {
-    rest = record {
-      opened = part opened_by a.rest.opened;
-      same_nodes = part same_node_of a.rest.same_nodes;
-      sets = part sets_at a.rest.sets;
-      kinds =
-          part kept_kind_at a.rest.kinds;
-    };
-    same_names = part same_name_of a.same_names;
-  }
-    where
-      part : {X : Type 0} (f : KeptNode → X) → map f xs ≡ map f ys → map f (take n xs) ≡ map f (take n ys)
-      part f e = sym (take-map f n xs) ∙ ap (take n) e ∙ take-map f n ys
-
--- as few must be closed as there are slots
-pub few-closed : (last : LastLevels) (items : List KeptNode) → LevelsStand last items → last.must_close ≤ length items
-few-closed last items s = omega (arith, s.closes, few-close (map kept_kind_at items), length-map items kept_kind_at)
+      pub levels-less : (next : LastLevels) → next.names.items ≡ set last.names.items x.opened.name x.same_name
+          → next.nodes.items ≡ set last.nodes.items x.opened.node x.same_node → next.must_close ≡ last.must_close - closing x.kind → LevelsTo i next items
+      levels-less next names nodes closes = record {
+        names = subst (λ (t : List ℕ). IsLinkedTo i t (slot_names zs) (map same_name_of items))
+            (sym (names ∙ ap (set last.names.items x.opened.name) (sym (part-at same_name_of 0 items i x within is))))
+            (linked-less last.names.items (slot_names zs) (map same_name_of items) i x.opened.name name-here s.names);
+        nodes = subst (λ (t : List ℕ). IsLinkedTo i t (slot_nodes zs) (map same_node_of items))
+            (sym (nodes ∙ ap (set last.nodes.items x.opened.node) (sym (part-at same_node_of 0 items i x within is))))
+            (linked-less last.nodes.items (slot_nodes zs) (map same_node_of items) i x.opened.node node-here s.nodes);
+        sets = λ set m h. s.sets set m (omega arith);
+        kinds = λ j h. s.kinds j (omega arith);
+        closes = omega (arith, closes, s.closes, closes-more, ap closing kind-at);
+        fits = omega (arith, s.fits, ap length nodes, length-set last.nodes.items x.opened.node x.same_node);
+      }

@@ -1,7 +1,7 @@
 -- Members of a list that change places, leave or give way, and the levels that are kept of them.
 use Rattle.hopen.proofs.Names.{◌≡◌, ◌≢◌, ℕ, zero, suc, ◌-◌, ◌<◌, ◌≤◌, eqb, Bool, true, false, cond, ◌&&◌, List, length, map, get_or, set, ◌⊎◌, inl, inr, refl, sym, ◌∙◌, ap, subst, arith, cases_Bool, cases_eq, cases_lt, eqb-true, eqb-false, eqb-zero-suc, get_or-set_same, get_or-set_other, get_or_past, length-set, map-set, set-get_or, set-set, last_up, last_same, up-sought, up-other, up-within, up-found, up-least, up-past, up-alike, IsHeldLevel, IsLinked, AreHoles, exchanged, level_exchanged, nat_tests}
 use Rattle.std.proofs.Math.ListN.{get_or-map}
-use Rattle.hopen.proofs.Linked.{either, eqb-same, eqb-not, numbered, same-from, same-hole, same-member, kept-hole, kept-member}
+use Rattle.hopen.proofs.Linked.{either, eqb-same, eqb-not, get-set, numbered, same-from, same-hole, same-member, kept-hole, kept-member}
 
 -- where a level goes
 module _ (i j p : ℕ) where
@@ -387,27 +387,21 @@ module _ (t ns bs : List ℕ) (l : IsLinked t ns bs) (i new : ℕ) (within : i <
       many : length filled ≡ length ns
       many = length-set ns i (suc new)
 
--- one entry is written
-get-set : (t : List ℕ) (a v k : ℕ) → a < length t → get_or (set t a v) k 0 ≡ cond (eqb k a) v (get_or t k 0)
-get-set t a v k h = grind (arith, cases_Bool, get_or-set_same, get_or-set_other, nat_tests)
-
--- a number that is nowhere else gives way to one that is nowhere
+-- a number that is nowhere else leaves a hole
 module _ (t ns bs : List ℕ) (l : IsLinked t ns bs) (i old : ℕ) (member : get_or ns i 0 ≡ suc old) (long : length bs ≡ length ns) (within : i < length ns)
-    (new : ℕ) (new_in : new < length t) (none_above : get_or bs i 0 ≡ 0) (none_below : get_or t old 0 ≡ suc i) (fresh : get_or t new 0 ≡ 0) where
-  -- first the old one leaves a hole
-  left-alone : IsLinked (set t old 0) (set ns i 0) bs
+    (none_above : get_or bs i 0 ≡ 0) (none_below : get_or t old 0 ≡ suc i) where
+  pub left-alone : IsLinked (set t old 0) (set ns i 0) bs
   left-alone = linked-left t ns bs l i old 0 within (held-none t ns bs l i old member long none_below) (set t old 0) bs
       (λ k. get-set t old 0 k (walk-in t ns bs l i old member within) ∙ ap (λ b. cond (eqb k old) b (get_or t k 0)) (sym none_above))
       (λ m ne. sym (ap (λ v. cond v (get_or bs i 0) (get_or bs m 0)) (eqb-zero-suc m))) none_above
 
-  still-fresh : get_or (set t old 0) new 0 ≡ 0
-  still-fresh = get_or-set_other t old new 0 0 (λ e. absurd (omega (arith, ap (λ k. get_or t k 0) e))) ∙ fresh
-
-  pub linked-fresh : IsLinked (set (set t old 0) new (suc i)) (set ns i (suc new)) bs
-  linked-fresh =
+  -- or gives way to one that is nowhere
+  pub linked-fresh : (new : ℕ) → new < length t → get_or t new 0 ≡ 0 → IsLinked (set (set t old 0) new (suc i)) (set ns i (suc new)) bs
+  linked-fresh new new_in fresh =
+      let still : get_or (set t old 0) new 0 ≡ 0 = get_or-set_other t old new 0 0 (λ e. absurd (omega (arith, ap (λ k. get_or t k 0) e))) ∙ fresh in
       subst (λ xs. IsLinked (set (set t old 0) new (suc i)) xs bs) (set-set ns i 0 (suc new))
       (linked-filled (set t old 0) (set ns i 0) bs left-alone i new (omega (arith, length-set ns i 0)) (omega (arith, length-set t old 0))
-      (get_or-set_same ns i 0 0 within) still-fresh)
+      (get_or-set_same ns i 0 0 within) still)
 
 -- two members that have holes alone between them, and are nowhere below, change places
 module _ (t ns bs : List ℕ) (l : IsLinked t ns bs) (long : length bs ≡ length ns) (i j a b : ℕ) (less : i < j) (within : j < length ns)

@@ -1,34 +1,57 @@
--- A hole at the end of a vector goes.
-use Rattle.hopen.proofs.Names.{◌≡◌, suc, ◌-◌, ◌<◌, ◌≤◌, List, [], ◌∷◌, ◌++◌, None, false, length-append, add-one, get_or_push, is_hole_kind, EndsOpen, length, map, take, get_or, refl, sym, ◌∙◌, ap, subst, arith, length-reverse, length-map, length-take-le, take_all, take-more, get_or_default, opened_by, stack_of, slots_of, somes, LevelsStand, KeptNode, LastLevels}
+-- The holes of a vector: one at the end goes, and how many there are.
+use Rattle.hopen.proofs.Names.{◌≡◌, ◌≢◌, ℕ, suc, ◌+◌, ◌-◌, ◌<◌, List, [], ◌∷◌, ◌++◌, Option, Some, None, false, add-one, refl, length, map, reverse, take, get_or, set, sym, ◌∙◌, ap, subst, arith, length-append, length-map, length-set, length-reverse, length-take-le, reverse-append, take_all, take_more, take-map, take-take, get_or_push, sum_by, sum_by-cons, sum_by-set, sum_by_push, get_or-le-sum_by, gap, is_hole_kind, opened_by, stack_of, somes, EndsOpen, LevelsStand, LevelsTo, KeptNode, LastLevels}
 use Rattle.hopen.proofs.Held.{is-held, opened-at}
-use Rattle.hopen.proofs.Somes.{length-somes, no-hole}
-use Rattle.hopen.proofs.OpenLevels.{length-slots, slots-more}
-use Rattle.hopen.proofs.Standing.{stack-hole, taken-hole}
+use Rattle.hopen.proofs.Somes.{reverse-somes}
+use Rattle.hopen.proofs.Standing.{levels-front, levels-hole, stands-to, to-stands}
 
-pub length-stack : (items : List KeptNode) → length (stack_of items) ≤ length items
-length-stack items = omega (arith, length-somes (slots_of items), length-reverse (map opened_by items), length-map items opened_by)
+pub gap-live : {X : Type 0} (z : Option X) → z ≢ None → gap z ≡ 0
+gap-live None live = absurd (live refl)
+gap-live (Some x) live = refl
 
+-- a slot holds a node, or is a hole
+counted : {X : Type 0} (ys : List (Option X)) → length (somes ys) + sum_by gap ys ≡ length ys
+counted [] = refl
+counted (None ∷ ys) = omega (arith, sum_by-cons gap None ys, counted ys)
+counted (Some y ∷ ys) = omega (arith, sum_by-cons gap (Some y) ys, counted ys)
+
+-- a node that leaves, leaves one hole more
+pub holes-left : {X : Type 0} (ys : List (Option X)) (i : ℕ) → i < length ys → get_or ys i None ≢ None
+    → (sum_by gap (set ys i None) ≡ sum_by gap ys + 1) × (sum_by gap ys < length ys)
+holes-left ys i h live =
+    let one = sum_by-set gap ys i None None h in
+    let none = gap-live (get_or ys i None) live in
+    (omega arith, omega (arith, counted (set ys i None), length-set ys i None))
+
+pub stack-holes : (items : List KeptNode) → length (stack_of items) + sum_by gap (map opened_by items) ≡ length items
+stack-holes items =
+    let ys = map opened_by items in
+    omega (arith, counted ys, ap length (reverse-somes ys), length-reverse (somes ys), length-map items opened_by)
+
+-- the last slot is a hole
 module _ (items : List KeptNode) (some : 0 < length items) (gone : get_or (map opened_by items) (length items - 1) None ≡ None) where
-  next : length items ≡ suc (length items - 1)
-  next = omega arith
+  abbrev many : ℕ
+  many = length items - 1
 
-  hole-at : (d : KeptNode) → opened_by (get_or items (length items - 1) d) ≡ None
-  hole-at d = sym (opened-at items (length items - 1) d (omega arith)) ∙ gone
+  abbrev left : List KeptNode
+  left = take many items
 
-  pub stack-trimmed : (d : KeptNode) → stack_of (take (length items - 1) items) ≡ stack_of items
-  stack-trimmed d =
-      sym (ap stack_of (sym (take_all (length items) items (omega arith)) ∙ take-more items (length items) (length items - 1)
-      (get_or items (length items - 1) d) next (omega arith) refl')
-      ∙ stack-hole (take (length items - 1) items) (get_or items (length items - 1) d) (hole-at d))
-    where
-      refl' : get_or items (length items - 1) d ≡ get_or items (length items - 1) (get_or items (length items - 1) d)
-      refl' = get_or_default items (length items - 1) d (get_or items (length items - 1) d) (omega arith)
+  slots : map opened_by items ≡ map opened_by left ++ None ∷ []
+  slots =
+      sym (take_all (many + 1) (map opened_by items) (omega (arith, length-map items opened_by)))
+      ∙ take_more (map opened_by items) many None (omega (arith, length-map items opened_by)) ∙ (λ t. take-map opened_by many items t ++ gone t ∷ [])
 
-  pub stands-trimmed : (last : LastLevels) (d : KeptNode) → LevelsStand last items → LevelsStand last (take (length items - 1) items)
-  stands-trimmed last d s =
-      taken-hole items (length items) (length items - 1) (get_or items (length items - 1) d) next (omega arith)
-      (get_or_default items (length items - 1) d (get_or items (length items - 1) d) (omega arith)) last
-      (subst (LevelsStand last) (sym (take_all (length items) items (omega arith))) s) (hole-at d)
+  pub stack-trimmed : stack_of left ≡ stack_of items
+  stack-trimmed = sym (ap (λ ys. somes (reverse ys)) slots ∙ ap somes (reverse-append (map opened_by left) (None ∷ [])))
+
+  pub holes-trimmed : sum_by gap (map opened_by items) ≡ sum_by gap (map opened_by left) + 1
+  holes-trimmed = ap (sum_by gap) slots ∙ sum_by_push gap (map opened_by left) None
+
+  pub stands-trimmed : (last : LastLevels) → LevelsStand last items → LevelsStand last left
+  stands-trimmed last s =
+      let next : length items ≡ suc many = omega arith in
+      to-stands last left many (sym (length-take-le many items (omega arith)))
+      (levels-front many last left items (take-take many many items (omega arith))
+      (levels-hole items many (omega arith) last (subst (λ n. LevelsTo n last items) next (stands-to last items s)) gone))
 
 -- the last slot of a vector that ends with no hole
 pub ends-live : (items : List KeptNode) (x : KeptNode) → EndsOpen (map opened_by (items ++ x ∷ [])) → is_hole_kind x.kind ≡ false
@@ -37,18 +60,7 @@ ends-live items x e =
     (opened-at (items ++ x ∷ []) (length items) x (omega (arith, length-append items (x ∷ []))) ∙ ap opened_by (get_or_push items x x (length items) refl)
     ∙ gone))
 
--- some item of a vector that has one
-pub first-of : (items : List KeptNode) → 0 < length items → KeptNode
-first-of [] h = absurd (omega arith)
-first-of (x ∷ items) h = x
-
 -- where there is no hole, the last slot is none
-pub full-ends : (items : List KeptNode) → length (stack_of items) ≡ length items → EndsOpen (map opened_by items)
+pub full-ends : (items : List KeptNode) → sum_by gap (map opened_by items) ≡ 0 → EndsOpen (map opened_by items)
 full-ends items full k long none =
-    let many : length items ≡ suc k = sym (length-map items opened_by) ∙ long in
-    let d = first-of items (omega (arith, many)) in
-    let last : slots_of items ≡ opened_by (get_or items k d) ∷ slots_of (take k items) =
-    ap slots_of (sym (take_all (length items) items (omega arith))) ∙ slots-more items (length items) k d many (omega (arith, many)) in
-    no-hole (slots_of (take k items)) (opened_by (get_or items k d))
-    (sym (ap (λ zs. length (somes zs)) last) ∙ full ∙ many ∙ ap suc (sym (length-slots (take k items) ∙ length-take-le k items (omega (arith, many)))))
-    (sym (opened-at items k d (omega (arith, many))) ∙ none)
+    absurd (omega (arith, full, get_or-le-sum_by gap (map opened_by items) k None (omega (arith, long)), ap gap none))

@@ -1,6 +1,7 @@
 -- What is kept of the open nodes, so that no question has to search them. A vector has a slot for each of them, the current node's last; where a node
 -- has left from above others, its slot is a hole.
-use Rattle.std.specs.Prelude.{◌≡◌, ◌≢◌, ℕ, zero, suc, Bool, true, false, ◌+◌, ◌<◌, ◌^◌, ◌==◌, List, [], ◌∷◌, Option, Some, None, length, map, reverse}
+use Rattle.std.specs.Prelude.{◌≡◌, ◌≢◌, ℕ, zero, suc, Bool, true, false, ◌+◌, ◌<◌, ◌^◌, ◌==◌, List, Option, Some, None, length, map, reverse, take}
+use Rattle.std.specs.List.{All, sum_by}
 use Rattle.std.specs.Prelude.{slice_index, slice_index_or, slice_set, if◌then◌else◌}
 use Rattle.hopen.specs.Stack.{OpenNode}
 use Rattle.hopen.specs.Opens.{open_of}
@@ -52,25 +53,29 @@ open_name None = 0
 open_name (Some y) = suc y.name
 
 -- the same of the node
-abbrev pub node_in : Option (OpenNode ℕ) → ℕ
-node_in None = 0
-node_in (Some y) = suc y.node
+abbrev pub open_node : Option (OpenNode ℕ) → ℕ
+open_node None = 0
+open_node (Some y) = suc y.node
 
-abbrev pub names_in : List (Option (OpenNode ℕ)) → List ℕ
-names_in ys = map open_name ys
+abbrev pub slot_names : List (Option (OpenNode ℕ)) → List ℕ
+slot_names ys = map open_name ys
 
-abbrev pub nodes_in : List (Option (OpenNode ℕ)) → List ℕ
-nodes_in ys = map node_in ys
+abbrev pub slot_nodes : List (Option (OpenNode ℕ)) → List ℕ
+slot_nodes ys = map open_node ys
 
 -- where the number of a member is last before it; 0 for a hole
 abbrev pub last_same : List ℕ → ℕ → ℕ
 last_same numbers j = if slice_index numbers j == 0 then 0 else last_up (λ n. n == slice_index numbers j) numbers j
 
--- A table says where each number is last in a list, in which 0 is a hole and each number is one more, and each member of the list keeps where its number
--- is last before it. Levels count from 1; 0 is none.
-pub record IsLinked (table numbers befores : List ℕ) : Type 0 where
-  pub says : (k : ℕ) → slice_index table k ≡ last_up (λ n. n == suc k) numbers (length numbers)
-  pub kept : (j : ℕ) → j < length numbers → slice_index befores j ≡ last_same numbers j
+-- A table says where each number is last among the first members of a list, as many as are given; 0 is a hole there, and each number is one more. And
+-- each of these keeps where its number is last before it. Levels count from 1; 0 is none.
+pub record IsLinkedTo (n : ℕ) (table numbers befores : List ℕ) : Type 0 where
+  pub says : (k : ℕ) → slice_index table k ≡ last_up (λ m. m == suc k) numbers n
+  pub kept : (j : ℕ) → j < n → slice_index befores j ≡ last_same numbers j
+
+-- the same of all members
+abbrev pub IsLinked : (table numbers befores : List ℕ) → Type 0
+IsLinked table numbers befores = IsLinkedTo (length numbers) table numbers befores
 
 -- from a slot on upwards, the nearest node of a set, by the number after its own, if this is that of the slots above; 0 is none
 abbrev pub nearest_in : NameSet → Option (OpenNode ℕ) → (above : ℕ) → ℕ
@@ -82,10 +87,12 @@ abbrev pub nearest_up : NameSet → List (Option (OpenNode ℕ)) → ℕ → ℕ
 nearest_up set ys zero = 0
 nearest_up set ys (suc n) = nearest_in set (slice_index_or ys n None) (nearest_up set ys n)
 
--- each slot that is no hole keeps that of the slots down to it
+-- each of the first slots that is no hole keeps that of the slots down to it
+abbrev pub KeepSetsTo : ℕ → List (Option (OpenNode ℕ)) → List SetNodes → Type 0
+KeepSetsTo n ys sets = (set : NameSet) (m : ℕ) → m < n → slice_index_or ys m None ≢ None → slice_index (map (set_node set) sets) m ≡ nearest_up set ys (suc m)
+
 abbrev pub KeepSets : List (Option (OpenNode ℕ)) → List SetNodes → Type 0
-KeepSets ys sets = (set : NameSet) (n : ℕ) → n < length ys → slice_index_or ys n None ≢ None
-    → slice_index (map (set_node set) sets) n ≡ nearest_up set ys (suc n)
+KeepSets ys sets = KeepSetsTo (length ys) ys sets
 
 -- what a slot is
 abbrev pub kept_kind : Option (OpenNode ℕ) → Kind
@@ -98,23 +105,31 @@ closing kind.Hole = 0
 closing kind.MayStay = 0
 closing kind.MustClose = 1
 
--- how many nodes may not be
-abbrev pub closing_in : List Kind → ℕ
-closing_in [] = 0
-closing_in (k ∷ kinds) = closing k + closing_in kinds
-
 -- what is kept of these slots is right, and so is what each of them keeps
 pub record StandsAs (last : LastLevels) (ys : List (Option (OpenNode ℕ))) (same_names same_nodes : List ℕ) (kept : List SetNodes) (ks : List Kind) :
     Type 0 where
-  pub names : IsLinked last.names.items (names_in ys) same_names
-  pub nodes : IsLinked last.nodes.items (nodes_in ys) same_nodes
+  pub names : IsLinked last.names.items (slot_names ys) same_names
+  pub nodes : IsLinked last.nodes.items (slot_nodes ys) same_nodes
   pub sets : KeepSets ys kept
   pub kinds : ks ≡ map kept_kind ys
-  pub closes : last.must_close ≡ closing_in ks
+  pub closes : last.must_close ≡ sum_by closing ks
   pub fits : length last.nodes.items < 2 ^ 32
 
 abbrev pub LevelsStand : LastLevels → List KeptNode → Type 0
 LevelsStand last items = StandsAs last (map opened_by items) (map same_name_of items) (map same_node_of items) (map sets_at items) (map kept_kind_at items)
+
+-- the same of the first slots, as many as are given
+pub record StandsTo (n : ℕ) (last : LastLevels) (ys : List (Option (OpenNode ℕ))) (same_names same_nodes : List ℕ) (kept : List SetNodes) (ks : List Kind) :
+    Type 0 where
+  pub names : IsLinkedTo n last.names.items (slot_names ys) same_names
+  pub nodes : IsLinkedTo n last.nodes.items (slot_nodes ys) same_nodes
+  pub sets : KeepSetsTo n ys kept
+  pub kinds : (j : ℕ) → j < n → slice_index_or ks j kind.Hole ≡ kept_kind (slice_index_or ys j None)
+  pub closes : last.must_close ≡ sum_by closing (take n ks)
+  pub fits : length last.nodes.items < 2 ^ 32
+
+abbrev pub LevelsTo : ℕ → LastLevels → List KeptNode → Type 0
+LevelsTo n last items = StandsTo n last (map opened_by items) (map same_name_of items) (map same_node_of items) (map sets_at items) (map kept_kind_at items)
 
 -- the last slot is no hole
 abbrev pub EndsOpen : List (Option (OpenNode ℕ)) → Type 0
@@ -168,12 +183,12 @@ pub record AreAsLong (last other : LastLevels) : Type 0 where
 abbrev pub HasRoom : LastLevels → Open → Type 0
 HasRoom last x = (x.name < length last.names.items) × (x.node < length last.nodes.items)
 
--- the slot of a node right below others, where the tables and what these keep are right
-pub record IsBelow (last : LastLevels) (above : List KeptNode) (new : Open) (x : KeptNode) : Type 0 where
+-- the slot of a node right below the first slots, where the tables and what these keep are right
+pub record IsBelow (last : LastLevels) (ys : List (Option (OpenNode ℕ))) (n : ℕ) (new : Open) (x : KeptNode) : Type 0 where
   pub opened : x.opened ≡ new
   pub same_name : x.same_name ≡ slice_index last.names.items new.name
   pub same_node : x.same_node ≡ slice_index last.nodes.items new.node
-  pub sets : (set : NameSet) → set_node set x.sets ≡ nearest_in set (Some (open_of new)) (nearest_up set (map opened_by above) (length above))
+  pub sets : (set : NameSet) → set_node set x.sets ≡ nearest_in set (Some (open_of new)) (nearest_up set ys n)
   pub kind : x.kind ≡ kept_kind (Some (open_of new))
 
 -- a node that is open at a level and nowhere else, and is not special
@@ -193,16 +208,15 @@ pub record CanGiveWay (last : LastLevels) (x : KeptNode) (level : ℕ) (new : Op
 pub record CanPass (last : LastLevels) (items : List KeptNode) (i j : ℕ) : Type 0 where
   pub order : i < j
   pub within : j < length items
-  pub holes : AreHoles i j (names_in (map opened_by items))
+  pub holes : AreHoles i j (slot_names (map opened_by items))
   pub upper : (x : KeptNode) → x ≡ slice_index_or items i x
       → (is_hole x.kind ≡ false) × (is_special (tag_of x.opened.name) ≡ false) × (slice_index last.nodes.items x.opened.node ≡ suc i)
   pub lower : (x : KeptNode) → x ≡ slice_index_or items j x → (is_hole x.kind ≡ false) × (slice_index last.nodes.items x.opened.node ≡ suc j)
 
--- the numbers of a slot are in tables of these lengths
-abbrev pub IsInSets : (names nodes : ℕ) → Option (OpenNode ℕ) → Type 0
-IsInSets names nodes None = Unit {0}
-IsInSets names nodes (Some y) = (y.name < names) × (y.node < nodes)
+-- the tables have an entry for the node of a slot and one for its name
+abbrev pub IsIn : LastLevels → Option (OpenNode ℕ) → Type 0
+IsIn last None = Unit {0}
+IsIn last (Some y) = (y.name < length last.names.items) × (y.node < length last.nodes.items)
 
-abbrev pub AreIn : (names nodes : ℕ) → List (Option (OpenNode ℕ)) → Type 0
-AreIn names nodes [] = Unit {0}
-AreIn names nodes (y ∷ ys) = IsInSets names nodes y × AreIn names nodes ys
+abbrev pub AreIn : LastLevels → List (Option (OpenNode ℕ)) → Type 0
+AreIn last ys = All (IsIn last) ys

@@ -3,8 +3,9 @@
 
 ghost use Rattle.std.specs.Prelude.{◌≡◌, ◌≢◌, ℕ, ◌+◌, ◌<◌, ◌≤◌, ◌^◌, ◌==◌, ◌&&◌, None, false, true, suc, drop, length, map, reverse};
 ghost use Rattle.std.specs.Prelude.{slice_index, slice_index_or, slice_set, vec_capacity, vec_len, if◌then◌else◌};
+ghost use Rattle.std.specs.List.{sum_by};
 ghost use Rattle.hnodes.specs.Nearest.{item_put_before, without};
-ghost use Rattle.hopen.specs.Vocabulary.{exchanged, is_hole, is_node, is_open, is_special, names_in, open_of, opened_by, same_name_of, same_node_of, sets_at};
+ghost use Rattle.hopen.specs.Vocabulary.{exchanged, gap, is_hole, is_node, is_open, is_special, slot_names, open_of, opened_by, same_name_of, same_node_of, sets_at};
 ghost use Rattle.hopen.specs.Vocabulary.{kept_kind_at, somes, stack_of, tag_of, AreAlikeButNames, AreAsLong, AreHoles, CanPass, EndsOpen, HasRoom, IsHeldLevel, IsLinked};
 ghost use Rattle.hopen.specs.Vocabulary.{KeepSets, Rests, LevelsStand};
 ghost use Rattle.hopen.specs.declared.kept.Kind.TheVariants as Kind;
@@ -17,7 +18,7 @@ use names::NameId;
 
 /// The level of the next node below an index that has the same name; 0 if there is none. It takes constant time where the item knows it.
 fn next_of_name(names: &[u32], items: &[KeptNode], index: usize) -> u32
-    requires linked { IsLinked names.now (names_in (map opened_by items.now)) (map same_name_of items.now) }
+    requires linked { IsLinked names.now (slot_names (map opened_by items.now)) (map same_name_of items.now) }
     requires levels { length items.now < 2 ^ 32 }
     requires within { index < length items.now }
     requires live { (x : KeptNode) → x ≡ slice_index_or items.now index x → is_hole x.kind ≡ false }
@@ -72,11 +73,11 @@ fn keep(names: &mut [u32], items: &mut [KeptNode], name: NameId, next: u32, leve
 
 /// Makes what is kept of the other nodes of a name right for when one has left.
 pub(crate) fn unlink_name(names: &mut [u32], items: &mut [KeptNode], index: usize)
-    requires linked { IsLinked names.old (names_in (map opened_by items.old)) (map same_name_of items.old) }
+    requires linked { IsLinked names.old (slot_names (map opened_by items.old)) (map same_name_of items.old) }
     requires levels { length items.old < 2 ^ 32 }
     requires within { index < length items.old }
     requires live { (x : KeptNode) → x ≡ slice_index_or items.old index x → is_hole x.kind ≡ false }
-    ensures linked { IsLinked names.new (slice_set (names_in (map opened_by items.old)) index 0) (slice_set (map same_name_of items.new) index 0) }
+    ensures linked { IsLinked names.new (slice_set (slot_names (map opened_by items.old)) index 0) (slice_set (map same_name_of items.new) index 0) }
     ensures rest { AreAlikeButNames items.new items.old }
 {
     let item = items[index];
@@ -87,14 +88,14 @@ pub(crate) fn unlink_name(names: &mut [u32], items: &mut [KeptNode], index: usiz
 
 /// Makes what is kept of the names of a node and the next one below it right for when the two have changed places.
 fn swap_names(names: &mut [u32], items: &mut [KeptNode], index: usize, below: usize)
-    requires linked { IsLinked names.old (names_in (map opened_by items.old)) (map same_name_of items.old) }
+    requires linked { IsLinked names.old (slot_names (map opened_by items.old)) (map same_name_of items.old) }
     requires levels { length items.old < 2 ^ 32 }
     requires order { index < below }
     requires within { below < length items.old }
     requires upper { (x : KeptNode) → x ≡ slice_index_or items.old index x → is_hole x.kind ≡ false }
     requires lower { (x : KeptNode) → x ≡ slice_index_or items.old below x → is_hole x.kind ≡ false }
-    requires holes { AreHoles index below (names_in (map opened_by items.old)) }
-    ensures linked { IsLinked names.new (exchanged index below 0 (names_in (map opened_by items.old))) (map same_name_of items.new) }
+    requires holes { AreHoles index below (slot_names (map opened_by items.old)) }
+    ensures linked { IsLinked names.new (exchanged index below 0 (slot_names (map opened_by items.old))) (map same_name_of items.new) }
     ensures rest { AreAlikeButNames items.new items.old }
 {
     let upper = items[index];
@@ -122,7 +123,7 @@ fn swap_items(items: &mut [KeptNode], index: usize, below: usize)
     requires sets { KeepSets (map opened_by items.old) (map sets_at items.old) }
     requires upper { (x : KeptNode) → x ≡ slice_index_or items.old index x → (is_hole x.kind ≡ false) × (is_special (tag_of x.opened.name) ≡ false) }
     requires lower { (x : KeptNode) → x ≡ slice_index_or items.old below x → is_hole x.kind ≡ false }
-    requires holes { AreHoles index below (names_in (map opened_by items.old)) }
+    requires holes { AreHoles index below (slot_names (map opened_by items.old)) }
     ensures opened { map opened_by items.new ≡ exchanged index below None (map opened_by items.old) }
     ensures same_names { map same_name_of items.new ≡ map same_name_of items.old }
     ensures same_nodes { map same_node_of items.new ≡ exchanged index below 0 (map same_node_of items.old) }
@@ -169,7 +170,7 @@ fn can_pass(last: &LastLevels, items: &[KeptNode], index: usize, below: usize) -
     requires within { below < length items.now }
     requires upper { (x : KeptNode) → x ≡ slice_index_or items.now index x → is_hole x.kind ≡ false }
     requires lower { (x : KeptNode) → x ≡ slice_index_or items.now below x → is_hole x.kind ≡ false }
-    requires holes { AreHoles index below (names_in (map opened_by items.now)) }
+    requires holes { AreHoles index below (slot_names (map opened_by items.now)) }
     ensures { (result ≡ true) → CanPass last.now items.now index below }
 {
     let upper = items[index].opened;
@@ -187,7 +188,7 @@ fn next_open(items: &[KeptNode], index: usize) -> usize
     ensures order { index < result }
     ensures within { result < length items.now }
     ensures live { (x : KeptNode) → x ≡ slice_index_or items.now result x → is_hole x.kind ≡ false }
-    ensures holes { AreHoles index result (names_in (map opened_by items.now)) }
+    ensures holes { AreHoles index result (slot_names (map opened_by items.now)) }
 {
     let mut next = index + 1;
     while items[next].kind.is_hole() {
@@ -206,6 +207,7 @@ fn sink(last: &mut LastLevels, items: &mut [KeptNode], from: usize, to: usize) -
     requires to { to < length items.old }
     ensures stands { LevelsStand last.new items.new }
     ensures ends { EndsOpen (map opened_by items.new) }
+    ensures holes { sum_by gap (map opened_by items.new) ≡ sum_by gap (map opened_by items.old) }
     ensures within { result < length items.new }
     ensures same { slice_index_or (map opened_by items.new) result None ≡ slice_index_or (map opened_by items.old) from None }
     ensures rest { somes (reverse (slice_set (map opened_by items.new) result None)) ≡ somes (reverse (slice_set (map opened_by items.old) from None)) }

@@ -78,7 +78,8 @@ fn trim(slots: &mut Slots)
     ensures same { live (listed_items slots.new.items.items) ≡ live (listed_items slots.old.items.items) }
 {
     while ends_in_hole(slots) {
-        slots.pop();
+        let len = slots.items.len();
+        slots.truncate(len - 1);
     }
 }
 
@@ -286,7 +287,7 @@ impl Formatting {
         if place < self.slots.items.len() {
             self.slots.hide(place - 1);
         } else {
-            self.slots.pop();
+            self.slots.truncate(place - 1);
         }
         trim(&mut self.slots);
         more

@@ -1,10 +1,10 @@
 //! The levels that open nodes keep, so that no question has to search the stack.
 
-ghost use Rattle.std.specs.Prelude.{◌≡◌, ◌≢◌, List, true, false, ℕ, ◌+◌, ◌-◌, ◌<◌, ◌≤◌, ◌^◌, OnOk, OnErr, ◌∷◌, Some, None, drop, insert, length, map, take};
+ghost use Rattle.std.specs.Prelude.{◌≡◌, ◌≢◌, List, true, false, ℕ, ◌+◌, ◌-◌, ◌<◌, ◌≤◌, ◌^◌, OnOk, OnErr, ◌∷◌, Some, None, insert, length, map};
 ghost use Rattle.std.specs.Prelude.{slice_index, slice_index_or, slice_set, vec_capacity, vec_len};
 ghost use Rattle.std.specs.Option.{option_map};
 ghost use Rattle.hopen.specs.Vocabulary.{closing, is_hole, kept_kind, nearest_up, open_of, opened_by, set_node, sets_at, stack_of, tag_of};
-ghost use Rattle.hopen.specs.Vocabulary.{AreAlike, AreAsLong, AreIn, CanGiveWay, EndsOpen, HasRoom, IsAlone, IsBelow, KeepSets, Rests, LevelsStand};
+ghost use Rattle.hopen.specs.Vocabulary.{AreAlike, AreAsLong, AreIn, CanGiveWay, EndsOpen, HasRoom, IsAlone, IsBelow, IsIn, KeepSets, KeepSetsTo, Rests, LevelsStand, LevelsTo};
 ghost use Rattle.hopen.specs.declared.kept.Kind.TheVariants as Kind;
 
 use crate::name_sets::{NameSet, SetNodes};
@@ -115,8 +115,7 @@ impl Kind {
 impl KeptNode {
     /// A slot for a node, whose levels are not known yet.
     pub(crate) fn new(opened: Open) -> Self
-        ensures opened { result.opened ≡ opened }
-        ensures live { is_hole result.kind ≡ false }
+        ensures { opened_by result ≡ Some (open_of opened) }
     {
         KeptNode {
             opened,
@@ -188,7 +187,8 @@ impl LastLevels {
         requires { HasRoom self.old opened }
         ensures names { self.new.names.items ≡ slice_set self.old.names.items opened.name of_name }
         ensures nodes { self.new.nodes.items ≡ slice_set self.old.nodes.items opened.node of_node }
-        ensures counts { (self.new.must_close ≡ self.old.must_close) × (self.new.holes ≡ self.old.holes) }
+        ensures closes { self.new.must_close ≡ self.old.must_close }
+        ensures tables { AreAsLong self.new self.old }
     {
         self.names[opened.name.index()] = of_name;
         self.nodes[opened.node.index()] = of_node;
@@ -215,20 +215,21 @@ impl LastLevels {
         ensures names { self.new.names.items ≡ slice_set self.old.names.items item.now.opened.name item.now.same_name }
         ensures nodes { self.new.nodes.items ≡ slice_set self.old.nodes.items item.now.opened.node item.now.same_node }
         ensures closes { self.new.must_close ≡ self.old.must_close - closing item.now.kind }
-        ensures holes { self.new.holes ≡ self.old.holes }
+        ensures tables { AreAsLong self.new self.old }
     {
         self.set(item.opened, item.same_name, item.same_node);
         self.must_close -= item.kind.closing();
     }
 }
 
-/// The nearest nodes of sets of names among these slots.
+/// The nearest nodes of sets of names among the first slots, as many as are given.
 #[inline(always)]
-pub(crate) fn sets_of(items: &[KeptNode]) -> SetNodes
-    requires { KeepSets (map opened_by items.now) (map sets_at items.now) }
-    ensures { (set : NameSet) → set_node set result ≡ nearest_up set (map opened_by items.now) (length items.now) }
+fn sets_of(items: &[KeptNode], from: usize) -> SetNodes
+    requires within { from ≤ length items.now }
+    requires keep { KeepSetsTo from (map opened_by items.now) (map sets_at items.now) }
+    ensures { (set : NameSet) → set_node set result ≡ nearest_up set (map opened_by items.now) from }
 {
-    let mut index = items.len();
+    let mut index = from;
     while index > 0 {
         index -= 1;
         if !items[index].kind.is_hole() {
@@ -238,7 +239,7 @@ pub(crate) fn sets_of(items: &[KeptNode]) -> SetNodes
     SetNodes::none()
 }
 
-/// The same where the last slot is no hole.
+/// The same of all slots, the last of which is no hole.
 #[inline(always)]
 pub(crate) fn sets_at_end(items: &[KeptNode]) -> SetNodes
     requires keep { KeepSets (map opened_by items.now) (map sets_at items.now) }
@@ -263,33 +264,19 @@ pub(crate) fn hint(items: &mut [KeptNode], level: u32, next: u32)
 }
 
 /// Takes the nodes of the slots from an index on out of the tables, the last one first.
-pub(crate) fn unwind(last: &mut LastLevels, items: &[KeptNode], from: usize)
+fn unwind(last: &mut LastLevels, items: &[KeptNode], from: usize)
     requires stands { LevelsStand last.old items.now }
     requires within { from ≤ length items.now }
-    ensures stands { LevelsStand last.new (take from items.now) }
-    ensures numbers { AreIn (length last.new.names.items) (length last.new.nodes.items) (map opened_by (drop from items.now)) }
+    ensures stands { LevelsTo from last.new items.now }
     ensures tables { AreAsLong last.new last.old }
 {
     let mut end = items.len();
     while end > from {
         end -= 1;
-        close_at(last, items, end);
-    }
-}
-
-/// Takes the node of the slot at an index out of the tables, where none is below it.
-#[inline(always)]
-fn close_at(last: &mut LastLevels, items: &[KeptNode], index: usize)
-    requires within { index < length items.now }
-    requires stands { LevelsStand last.old (take (index + 1) items.now) }
-    requires numbers { AreIn (length last.old.names.items) (length last.old.nodes.items) (map opened_by (drop (index + 1) items.now)) }
-    ensures stands { LevelsStand last.new (take index items.now) }
-    ensures numbers { AreIn (length last.new.names.items) (length last.new.nodes.items) (map opened_by (drop index items.now)) }
-    ensures tables { AreAsLong last.new last.old }
-{
-    let item = items[index];
-    if !item.kind.is_hole() {
-        last.take_back(&item);
+        let item = items[end];
+        if !item.kind.is_hole() {
+            last.take_back(&item);
+        }
     }
 }
 
@@ -298,8 +285,8 @@ fn close_at(last: &mut LastLevels, items: &[KeptNode], index: usize)
 fn slot_below(last: &LastLevels, sets: SetNodes, opened: Open) -> KeptNode
     requires fits { length last.now.nodes.items < 2 ^ 32 }
     requires room { HasRoom last.now opened }
-    ensures { (above : List KeptNode) → ((set : NameSet) → set_node set sets ≡ nearest_up set (map opened_by above) (length above))
-        → IsBelow last.now above opened result }
+    ensures { (items : List KeptNode) (n : ℕ) → ((set : NameSet) → set_node set sets ≡ nearest_up set (map opened_by items) n)
+        → IsBelow last.now (map opened_by items) n opened result }
 {
     // Taken apart for the prover alone (CONTRIBUTING.md, "Traps").
     let Open { node, name } = opened;
@@ -319,13 +306,13 @@ fn slot_below(last: &LastLevels, sets: SetNodes, opened: Open) -> KeptNode
 /// Writes the level of the node of a new slot, which is this, into the tables.
 #[inline(always)]
 fn enter(last: &mut LastLevels, items: &mut [KeptNode], index: usize, slot: KeptNode)
-    requires stands { LevelsStand last.old (take index items.old) }
+    requires stands { LevelsTo index last.old items.old }
     requires within { index < length items.old }
     requires slot { slot ≡ slice_index_or items.old index slot }
-    requires below { IsBelow last.old (take index items.old) slot.opened slot }
+    requires below { IsBelow last.old (map opened_by items.old) index slot.opened slot }
     requires room { HasRoom last.old slot.opened }
     requires levels { length items.old < 2 ^ 32 }
-    ensures stands { LevelsStand last.new (take (index + 1) items.new) }
+    ensures stands { LevelsTo (index + 1) last.new items.new }
     ensures same { map opened_by items.new ≡ map opened_by items.old }
     ensures tables { AreAsLong last.new last.old }
 {
@@ -335,51 +322,33 @@ fn enter(last: &mut LastLevels, items: &mut [KeptNode], index: usize, slot: Kept
     hint(items, slot.same_name, level);
 }
 
-/// Opens the node of the slot at an index right below those above it.
-#[inline(always)]
-fn open_at(last: &mut LastLevels, items: &mut [KeptNode], index: usize)
-    requires stands { LevelsStand last.old (take index items.old) }
-    requires within { index < length items.old }
-    requires live { (x : KeptNode) → x ≡ slice_index_or items.old index x → is_hole x.kind ≡ false }
-    requires numbers { AreIn (length last.old.names.items) (length last.old.nodes.items) (map opened_by (drop index items.old)) }
-    requires levels { length items.old < 2 ^ 32 }
-    ensures stands { LevelsStand last.new (take (index + 1) items.new) }
-    ensures numbers { AreIn (length last.new.names.items) (length last.new.nodes.items) (map opened_by (drop (index + 1) items.new)) }
-    ensures same { map opened_by items.new ≡ map opened_by items.old }
-    ensures tables { AreAsLong last.new last.old }
-{
-    let opened = items[index].opened;
-    let slot = slot_below(last, sets_of(&items[..index]), opened);
-    let below = slot;
-    items[index] = below;
-    enter(last, items, index, slot);
-}
-
 /// Puts the slot at an index right below those above it.
 #[inline(always)]
 fn settle(last: &mut LastLevels, items: &mut [KeptNode], index: usize)
-    requires stands { LevelsStand last.old (take index items.old) }
+    requires stands { LevelsTo index last.old items.old }
     requires within { index < length items.old }
-    requires numbers { AreIn (length last.old.names.items) (length last.old.nodes.items) (map opened_by (drop index items.old)) }
+    requires numbers { AreIn last.old (map opened_by items.old) }
     requires levels { length items.old < 2 ^ 32 }
-    ensures stands { LevelsStand last.new (take (index + 1) items.new) }
-    ensures numbers { AreIn (length last.new.names.items) (length last.new.nodes.items) (map opened_by (drop (index + 1) items.new)) }
+    ensures stands { LevelsTo (index + 1) last.new items.new }
     ensures same { map opened_by items.new ≡ map opened_by items.old }
     ensures tables { AreAsLong last.new last.old }
 {
     let item = items[index];
     if item.kind.is_hole() {
         items[index] = item.hole();
-    } else {
-        open_at(last, items, index);
+        return;
     }
+    let slot = slot_below(last, sets_of(items, index), item.opened);
+    let below = slot;
+    items[index] = below;
+    enter(last, items, index, slot);
 }
 
 /// Puts the slots from an index on below those above them again, with the levels that they have now.
-pub(crate) fn rewind(last: &mut LastLevels, items: &mut [KeptNode], from: usize)
-    requires stands { LevelsStand last.old (take from items.old) }
+fn rewind(last: &mut LastLevels, items: &mut [KeptNode], from: usize)
+    requires stands { LevelsTo from last.old items.old }
     requires within { from ≤ length items.old }
-    requires numbers { AreIn (length last.old.names.items) (length last.old.nodes.items) (map opened_by (drop from items.old)) }
+    requires numbers { AreIn last.old (map opened_by items.old) }
     requires levels { length items.old < 2 ^ 32 }
     ensures stands { LevelsStand last.new items.new }
     ensures same { map opened_by items.new ≡ map opened_by items.old }
@@ -418,23 +387,6 @@ pub(crate) fn append(
     Ok(())
 }
 
-/// Opens a node below the others. On an error the items stay; the tables may have grown.
-#[inline(always)]
-pub(crate) fn push(
-    last: &mut LastLevels,
-    items: &mut Vec<KeptNode>,
-    opened: Open,
-) -> Result<(), AllocError>
-    requires rests { Rests last.old items.old.items }
-    requires levels { length items.old.items + 1 < 2 ^ 32 }
-    ensures rests { Rests last.new items.new.items }
-    ensures ok { OnOk result (stack_of items.new.items ≡ open_of opened ∷ stack_of items.old.items) }
-    ensures err { OnErr result (items.new.items ≡ items.old.items) }
-{
-    last.make_room(opened.name, opened.node)?;
-    append(last, items, opened)
-}
-
 /// Whether a node can leave or give way with nothing below looked at: it is not special, and open nowhere else.
 pub(crate) fn is_alone(last: &LastLevels, item: &KeptNode, level: u32) -> bool
     requires { is_hole item.now.kind ≡ false }
@@ -453,19 +405,19 @@ fn can_give_way(last: &LastLevels, item: &KeptNode, level: u32, name: NameId, no
     item.opened.name == name && is_alone(last, item, level) && last.of_node(node) == 0
 }
 
-/// Puts a new node in the place of any: what is kept below it is made anew.
+/// Puts any slot in the place of another: what is kept below it is made anew.
 #[inline(never)]
-fn replace_slowly(last: &mut LastLevels, items: &mut [KeptNode], index: usize, new: Open)
+pub(crate) fn rewrite(last: &mut LastLevels, items: &mut [KeptNode], index: usize, slot: KeptNode)
     requires stands { LevelsStand last.old items.old }
     requires within { index < length items.old }
     requires levels { length items.old < 2 ^ 32 }
-    requires new_in { HasRoom last.old new }
+    requires slot_in { IsIn last.old (opened_by slot) }
     ensures stands { LevelsStand last.new items.new }
-    ensures items { map opened_by items.new ≡ slice_set (map opened_by items.old) index (Some (open_of new)) }
+    ensures items { map opened_by items.new ≡ slice_set (map opened_by items.old) index (opened_by slot) }
     ensures tables { AreAsLong last.new last.old }
 {
     unwind(last, items, index);
-    items[index] = KeptNode::new(new);
+    items[index] = slot;
     rewind(last, items, index);
 }
 
@@ -490,7 +442,7 @@ pub(crate) fn replace(last: &mut LastLevels, items: &mut [KeptNode], index: usiz
         last.nodes[old.index()] = 0;
         last.nodes[node.index()] = level;
     } else {
-        replace_slowly(last, items, index, Open { node, name });
+        rewrite(last, items, index, KeptNode::new(Open { node, name }));
     }
 }
 

@@ -1,12 +1,13 @@
 //! Nodes that leave the stack: the current one, and those that leave from above others, which leave holes.
 
-ghost use Rattle.std.specs.Prelude.{◌≡◌, ◌≢◌, ◌+◌, ◌-◌, ◌<◌, ◌≤◌, ◌^◌, true, false, suc, IfSome, None, drop, length, map, reverse, slice_index_or, slice_set};
+ghost use Rattle.std.specs.Prelude.{◌≡◌, ◌≢◌, ◌-◌, ◌<◌, ◌≤◌, ◌^◌, true, false, suc, IfSome, None, drop, length, map, reverse, slice_index_or, slice_set};
 ghost use Rattle.std.specs.Prelude.{vec_capacity, vec_len};
+ghost use Rattle.std.specs.List.{sum_by};
 ghost use Rattle.std.specs.Option.{option_map};
-ghost use Rattle.hopen.specs.Vocabulary.{current, open_of, opened_by, somes, stack_of, AreAsLong, EndsOpen, HasRoom, IsAlone, Rests, LevelsStand};
+ghost use Rattle.hopen.specs.Vocabulary.{current, gap, open_of, opened_by, somes, stack_of, AreAsLong, EndsOpen, HasRoom, IsAlone, Rests, LevelsStand};
 
 use crate::exchange::unlink_name;
-use crate::kept::{KeptNode, LastLevels, append, is_alone, rewind, unwind};
+use crate::kept::{KeptNode, LastLevels, append, is_alone, rewrite};
 use crate::stack::Open;
 
 /// Whether the last slot is a hole.
@@ -22,7 +23,7 @@ fn ends_in_hole(items: &[KeptNode]) -> bool
 /// Takes away the holes at the end, one at a time.
 fn trim(last: &mut LastLevels, items: &mut Vec<KeptNode>)
     requires stands { LevelsStand last.old items.old.items }
-    requires holes { last.old.holes + length (stack_of items.old.items) ≡ length items.old.items }
+    requires holes { last.old.holes ≡ sum_by gap (map opened_by items.old.items) }
     requires levels { length items.old.items < 2 ^ 32 }
     ensures rests { Rests last.new items.new.items }
     ensures same { stack_of items.new.items ≡ stack_of items.old.items }
@@ -41,7 +42,7 @@ fn trim(last: &mut LastLevels, items: &mut Vec<KeptNode>)
 fn take_last(last: &mut LastLevels, items: &mut Vec<KeptNode>) -> Option<Open>
     requires { Rests last.old items.old.items }
     ensures stands { LevelsStand last.new items.new.items }
-    ensures holes { last.new.holes + length (stack_of items.new.items) ≡ length items.new.items }
+    ensures holes { last.new.holes ≡ sum_by gap (map opened_by items.new.items) }
     ensures popped { option_map open_of result ≡ current (stack_of items.old.items) }
     ensures rest { stack_of items.new.items ≡ drop 1 (stack_of items.old.items) }
     ensures none { (result ≡ None) → Rests last.new items.new.items }
@@ -84,7 +85,7 @@ fn lift(last: &mut LastLevels, items: &mut Vec<KeptNode>)
 #[inline(never)]
 fn tidy(last: &mut LastLevels, items: &mut Vec<KeptNode>)
     requires stands { LevelsStand last.old items.old.items }
-    requires holes { last.old.holes + length (stack_of items.old.items) ≡ length items.old.items }
+    requires holes { last.old.holes ≡ sum_by gap (map opened_by items.old.items) }
     requires levels { length items.old.items < 2 ^ 32 }
     ensures rests { Rests last.new items.new.items }
     ensures same { stack_of items.new.items ≡ stack_of items.old.items }
@@ -131,22 +132,6 @@ fn leave(last: &mut LastLevels, items: &mut [KeptNode], index: usize)
     items[index] = item.hole();
 }
 
-/// The same of any node: what is kept below it is made anew.
-#[inline(never)]
-fn leave_slowly(last: &mut LastLevels, items: &mut [KeptNode], index: usize)
-    requires stands { LevelsStand last.old items.old }
-    requires within { index < length items.old }
-    requires levels { length items.old < 2 ^ 32 }
-    ensures stands { LevelsStand last.new items.new }
-    ensures opened { map opened_by items.new ≡ slice_set (map opened_by items.old) index None }
-    ensures tables { AreAsLong last.new last.old }
-{
-    unwind(last, items, index);
-    let item = items[index];
-    items[index] = item.hole();
-    rewind(last, items, index);
-}
-
 /// Makes a hole of a slot. It takes constant time where its node is not special and open nowhere else.
 fn make_hole(last: &mut LastLevels, items: &mut [KeptNode], index: usize)
     requires stands { LevelsStand last.old items.old }
@@ -160,7 +145,8 @@ fn make_hole(last: &mut LastLevels, items: &mut [KeptNode], index: usize)
     if is_alone(last, &items[index], index as u32 + 1) {
         leave(last, items, index);
     } else {
-        leave_slowly(last, items, index);
+        let item = items[index];
+        rewrite(last, items, index, item.hole());
     }
 }
 

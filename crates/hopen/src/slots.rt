@@ -99,15 +99,6 @@ fn last_hole(items: &[Slot], index: usize, place: usize) -> Option<usize>
     None
 }
 
-/// Takes the last number away.
-#[inline(always)]
-fn pop_number(numbers: &mut IndexedList)
-    requires { 0 < length numbers.old }
-    ensures { numbers.new ≡ take (length numbers.old - 1) numbers.old }
-{
-    numbers.truncate(numbers.len() - 1);
-}
-
 /// Moves the number at an index to where none is.
 fn move_number(numbers: &mut IndexedList, index: usize, to: usize)
     requires within { index < length numbers.old }
@@ -281,36 +272,20 @@ impl Slots {
     }
 
     /// Keeps the first `len` items.
+    #[inline(always)]
     pub(crate) fn truncate(&mut self, len: usize)
         requires listed { AreSlotsListed self.old }
         requires within { len ≤ length self.old.items.items }
         ensures listed { AreSlotsListed self.new }
         ensures items { self.new.items.items ≡ take len self.old.items.items }
     {
-        if self.keys.is_some() {
-            self.hashes.truncate(len);
-        }
         self.names.truncate(len);
         self.nodes.truncate(len);
         self.items.truncate(len);
         self.solid = self.solid.min(len);
-    }
-
-    /// Takes the last item away.
-    #[inline(always)]
-    pub(crate) fn pop(&mut self)
-        requires listed { AreSlotsListed self.old }
-        requires some { 0 < length self.old.items.items }
-        ensures listed { AreSlotsListed self.new }
-        ensures items { self.new.items.items ≡ take (length self.old.items.items - 1) self.old.items.items }
-    {
         if self.keys.is_some() {
-            pop_number(&mut self.hashes);
+            self.hashes.truncate(len);
         }
-        pop_number(&mut self.names);
-        pop_number(&mut self.nodes);
-        self.items.pop();
-        self.solid = self.solid.min(self.items.len());
     }
 
     /// Leaves a hole at an index.
@@ -320,13 +295,13 @@ impl Slots {
         ensures listed { AreSlotsListed self.new }
         ensures items { self.new.items.items ≡ slice_set self.old.items.items index stored.Hole }
     {
-        if self.keys.is_some() {
-            self.hashes.clear(index);
-        }
         self.names.clear(index);
         self.nodes.clear(index);
         self.items[index] = Slot::Hole;
         self.solid = self.solid.max(index + 1);
+        if self.keys.is_some() {
+            self.hashes.clear(index);
+        }
     }
 
     /// Sets the node of the entry at an index.
@@ -353,13 +328,13 @@ impl Slots {
             ≡ slice_set (slice_set self.old.items.items index (slice_index_or self.old.items.items (index + 1) stored.Hole))
             (index + 1) (slice_index_or self.old.items.items index stored.Hole) }
     {
-        if self.keys.is_some() {
-            self.hashes.swap(index);
-        }
         self.names.swap(index);
         self.nodes.swap(index);
         self.items.swap(index, index + 1);
         self.solid = self.solid.max(index + 2);
+        if self.keys.is_some() {
+            self.hashes.swap(index);
+        }
     }
 
     /// Moves an item up to a greater index.
@@ -476,13 +451,13 @@ impl Slots {
         ensures listed { AreSlotsListed self.new }
         ensures items { self.new.items.items ≡ take from self.old.items.items ++ filter (λ i. not (is_gone i)) (drop from self.old.items.items) }
     {
-        if self.keys.is_some() {
-            self.hashes.compact(from);
-        }
         self.names.compact(from);
         self.nodes.compact(from);
         take_holes(&mut self.items, from);
         self.solid = from;
+        if self.keys.is_some() {
+            self.hashes.compact(from);
+        }
     }
 }
 

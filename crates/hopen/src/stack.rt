@@ -10,7 +10,7 @@ ghost use Rattle.hopen.specs.Vocabulary.{is_node, is_of, is_open, is_sought, is_
 ghost use Rattle.hopen.specs.Vocabulary.{tag_of, Default, Memory, TooDeep};
 
 use crate::exchange::exchange;
-use crate::kept::{KeptNode, LastLevels, push, replace};
+use crate::kept::{KeptNode, LastLevels, append, replace};
 use crate::leaving::{pop, remove};
 use crate::name_sets::NameSet;
 use crate::scope::{Group, Scope};
@@ -95,7 +95,8 @@ impl OpenStack {
         ensures err { OnErr result (self.new ≡ self.old) }
     {
         room(self.items.len(), self.last.holes, self.limit, at)?;
-        push(&mut self.last, &mut self.items, opened)?;
+        self.last.make_room(opened.name, opened.node)?;
+        append(&mut self.last, &mut self.items, opened)?;
         Ok(())
     }
 

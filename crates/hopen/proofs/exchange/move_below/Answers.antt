@@ -1,7 +1,8 @@
-use Rattle.hopen.proofs.Names.{◌≡◌, ◌+◌, ◌-◌, ◌≤◌, Some, length, map, reverse, insert, sym, ◌∙◌, ap, subst, arith, length-insert, length-map, item_put_before, is_node, open_of, opened_by, somes, EndsOpen}
-use Rattle.hopen.proofs.ExchangedSlots.{ends-insert, length-more, put-placed}
+use Rattle.hopen.proofs.Names.{◌≡◌, ◌+◌, ◌-◌, ◌≤◌, Some, length, map, reverse, insert, sym, ◌∙◌, ap, subst, arith, length-insert, length-map, item_put_before, is_node, open_of, opened_by, somes, gap, sum_by, sum_by-insert, EndsOpen}
+use Rattle.hopen.proofs.ExchangedSlots.{ends-insert, put-placed}
 use Rattle.hopen.proofs.NodeLevels.{level-le, level-of, put-none}
 use Rattle.hopen.proofs.OpenLevels.{placed}
+use Rattle.hopen.proofs.Trimmed.{stack-holes}
 use Rattle.hopen.proofs.exchange.move_below.Goals as goal
 
 pub insert-requires-clause-within : goal.insert-requires-clause-within
@@ -34,9 +35,10 @@ returns-then-level-gt0-clause-rests c =
         arith,
         rests.holes,
         c.insert.ensures.tables.holes,
-        ap (λ l. length (somes (reverse l))) opened,
-        length-more new (map opened_by left) level,
-        many,
+        ap (sum_by gap) opened,
+        sum_by-insert gap (map opened_by left) level (Some new),
+        stack-holes left,
+        stack-holes more,
       );
       levels = omega (arith, c.requires.levels, c.remove.ensures.len, many);
     }

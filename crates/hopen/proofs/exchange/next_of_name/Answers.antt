@@ -1,4 +1,4 @@
-use Rattle.hopen.proofs.Names.{◌≡◌, ℕ, suc, ◌-◌, ◌+◌, ◌<◌, ◌≤◌, List, length, map, get_or, sym, ◌∙◌, ap, subst, arith, length-map, get_or_default, IsHeldLevel, names_in, opened_by, same_name_of, KeptNode}
+use Rattle.hopen.proofs.Names.{◌≡◌, ℕ, suc, ◌-◌, ◌+◌, ◌<◌, ◌≤◌, List, length, map, get_or, sym, ◌∙◌, ap, subst, arith, length-map, get_or_default, IsHeldLevel, slot_names, opened_by, same_name_of, KeptNode}
 use Rattle.hopen.proofs.Projected.{length-names, name-at, name-in, same_name-at}
 use Rattle.hopen.proofs.Swapped.{Walks, held-at, held-next, walk-start, walk-up}
 use Rattle.hopen.proofs.exchange.next_of_name.Goals as goal
@@ -26,7 +26,7 @@ loop-before-init c =
     let names = c.args.names.now in
     let x = c.index-items-index.result in
     let is = c.index-items-index.is in
-    let ns = names_in (map opened_by items) in
+    let ns = slot_names (map opened_by items) in
     let name = name-at items i x c.requires.within is (c.requires.live x is) in
     let start = walk-start names ns (map same_name_of items) c.requires.linked i x.opened.name name (omega (arith, c.requires.within, length-names items)) in
     record {
@@ -44,7 +44,7 @@ loop-before-preserved c =
     let x = c.index-items-index.result in
     let is = c.index-items-index.is in
     let p = c.loop-before.before in
-    let ns = names_in (map opened_by items) in
+    let ns = slot_names (map opened_by items) in
     let w = c.loop-before.invariant.walks in
     let most : p ≤ length items = omega (arith, w.most, length-names items) in
     let at = same_name-at items (p - 1) c.index-items-before.result (omega arith) c.index-items-before.is in
@@ -69,7 +69,7 @@ loop-before-smaller c =
     let most : p ≤ length items = omega (arith, w.most, length-names items) in
     let at = same_name-at items (p - 1) c.index-items-before.result (omega arith) c.index-items-before.is ∙ ap same_name_of c.index-items-before.is in
     let name = name-at items i x c.requires.within is (c.requires.live x is) in
-    let up = walk-up c.args.names.now (names_in (map opened_by items)) (map same_name_of items) c.requires.linked i x.opened.name name p w (omega arith) in
+    let up = walk-up c.args.names.now (slot_names (map opened_by items)) (map same_name_of items) c.requires.linked i x.opened.name name p w (omega arith) in
     omega (arith, up.1, at)
 
 pub returns-then-items-item : goal.returns-then-items-item
@@ -83,7 +83,7 @@ returns-then-items-item c = λ x is.
     let at = same_name-at items (n - 1) c.index-items-item.result (omega arith) c.index-items-item.is ∙ ap same_name_of c.index-items-item.is in
     let name = name-at items i x c.requires.within is (c.requires.live x is) in
     subst (λ p. IsHeldLevel names bs x.opened.name p n) next
-    (held-next names (names_in (map opened_by items)) bs c.requires.linked i x.opened.name name
+    (held-next names (slot_names (map opened_by items)) bs c.requires.linked i x.opened.name name
     (omega (arith, length-names items, length-map items same_name_of))
     n (n - 1) (omega arith) (omega (arith, at)))
 
@@ -98,5 +98,5 @@ returns c = λ x is.
     let here : c.loop-before.before ≡ suc i = omega (arith, w.walks.below) in
     let name = name-at items i x c.requires.within is (c.requires.live x is) in
     subst (λ p. IsHeldLevel names bs x.opened.name p c.loop-before.next) next
-    (held-at names (names_in (map opened_by items)) bs c.requires.linked i x.opened.name name (omega (arith, length-names items, length-map items same_name_of))
+    (held-at names (slot_names (map opened_by items)) bs c.requires.linked i x.opened.name name (omega (arith, length-names items, length-map items same_name_of))
     c.loop-before.next (λ e. sym (w.top e x is) ∙ here) (λ j e. sym (w.kept j e) ∙ here))

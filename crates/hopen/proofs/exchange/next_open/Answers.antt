@@ -1,4 +1,4 @@
-use Rattle.hopen.proofs.Names.{◌≡◌, ◌+◌, true, List, length, map, get_or, get_or_default, None, inl, inr, sym, ◌∙◌, ap, arith, cases_lt, length-map, is_hole_kind, names_in, opened_by, KeptNode}
+use Rattle.hopen.proofs.Names.{◌≡◌, ◌+◌, true, List, length, map, get_or, get_or_default, None, inl, inr, sym, ◌∙◌, ap, arith, cases_lt, length-map, is_hole_kind, slot_names, opened_by, KeptNode}
 use Rattle.hopen.proofs.Held.{no-node}
 use Rattle.hopen.proofs.Projected.{name-hole, part-at}
 use Rattle.hopen.proofs.exchange.next_open.Goals as goal
@@ -20,7 +20,7 @@ loop-next-preserved c =
       ];
       holes = λ m more less. elim (cases_lt m n) [
         | inl above ↦ w.holes m more above
-        | inr past ↦ let at : n ≡ m = omega arith in ap (λ k. get_or (names_in (map opened_by items)) k 0) (sym at) ∙ name-hole items n x w.within is hole
+        | inr past ↦ let at : n ≡ m = omega arith in ap (λ k. get_or (slot_names (map opened_by items)) k 0) (sym at) ∙ name-hole items n x w.within is hole
       ];
     }
 

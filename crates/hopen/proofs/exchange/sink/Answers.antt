@@ -1,6 +1,7 @@
-use Rattle.hopen.proofs.Names.{◌+◌, drop, ◌≡◌, ℕ, ◌<◌, List, Option, None, length, map, reverse, get_or, set, sym, ◌∙◌, ap, subst, arith, length-map, opened_by, somes, EndsOpen, OpenNode}
+use Rattle.hopen.proofs.Names.{◌+◌, drop, ◌≡◌, ℕ, ◌<◌, List, Option, None, length, map, reverse, get_or, set, sym, ◌∙◌, ap, subst, arith, length-map, opened_by, somes, EndsOpen, OpenNode, gap, sum_by}
 use Rattle.hopen.proofs.ExchangedSlots.{drop-exchanged, drop-later, ends-exchanged, rest-exchanged}
 use Rattle.hopen.proofs.Held.{is-held}
+use Rattle.hopen.proofs.Passed.{sum-exchanged}
 use Rattle.hopen.proofs.Projected.{no-name, part-at}
 use Rattle.hopen.proofs.Swapped.{exchanged-lower}
 use Rattle.hopen.proofs.exchange.sink.Goals as goal
@@ -24,6 +25,7 @@ loop-index-preserved c =
     record {
       stands = c.swap.ensures.stands;
       ends = subst EndsOpen (sym opened) (ends-exchanged ys i j below.order within (λ e. c.requires.live (sym w.same ∙ e)) w.ends);
+      holes = ap (sum_by gap) opened ∙ sum-exchanged gap ys i j None below.order within ∙ w.holes;
       within = omega (arith, below.within, c.swap.auto.items);
       same = ap (λ l. get_or l j None) opened ∙ exchanged-lower i j None ys within ∙ w.same;
       rest = ap (λ l. somes (reverse (set l j None))) opened ∙ rest-exchanged ys i j below.order holes ∙ w.rest;

@@ -1,4 +1,4 @@
-use Rattle.hopen.proofs.Names.{◌≡◌, ℕ, suc, ◌+◌, ◌<◌, false, List, length, map, get_or, set, None, refl, sym, ◌∙◌, ap, transport, arith, with_items_is, exchanged, is_hole_kind, names_in, open_of, opened_by, tag_of, is_special, IsLinked, KeptNode, OpenNode}
+use Rattle.hopen.proofs.Names.{◌≡◌, ℕ, suc, ◌+◌, ◌<◌, false, List, length, map, get_or, set, None, refl, sym, ◌∙◌, ap, transport, arith, with_items_is, exchanged, is_hole_kind, slot_names, open_of, opened_by, tag_of, is_special, IsLinked, KeptNode, OpenNode}
 use Rattle.hopen.specs.declared.kept.Kind.TheVariants as kind
 use Rattle.hopen.proofs.Passed.{stands-passed}
 use Rattle.hopen.proofs.Projected.{live-of, opened-at, part-at}
@@ -48,6 +48,6 @@ returns-clause-stands c =
     c.index-items-below.is _ c.swap_items.new.items
     (moved.opened ∙ ap (exchanged i j None) rest.opened) (moved.same_nodes ∙ ap (exchanged i j 0) rest.same_nodes)
     (transport (λ t. IsLinked (sym (with_items_is last.names c.swap_names.new.names (c.swap_names.auto.names ∙ c.deref_mut.ensures.len)) t)
-    (exchanged i j 0 (names_in (map opened_by items))) (sym moved.same_names t)) c.swap_names.ensures.linked)
+    (exchanged i j 0 (slot_names (map opened_by items))) (sym moved.same_names t)) c.swap_names.ensures.linked)
     (λ t. set (set last.nodes.items (c.index.ensures t) (down t)) (c.index-2.ensures t) (up t))
     moved.sets (moved.kinds ∙ ap (exchanged i j kind.Hole) rest.kinds) refl

@@ -1,4 +1,4 @@
-use Rattle.hopen.proofs.Names.{◌≡◌, ℕ, ◌<◌, List, length, map, get_or, set, false, None, refl, sym, ◌∙◌, ap, arith, transport, get_or_default, length-map, set_comm, exchanged, is_hole_kind, is_special, kept_kind_at, names_in, open_of, opened_by, same_name_of, same_node_of, sets_at, tag_of, AreHoles, KeepSets, KeptNode}
+use Rattle.hopen.proofs.Names.{◌≡◌, ℕ, ◌<◌, List, length, map, get_or, set, false, None, refl, sym, ◌∙◌, ap, arith, transport, get_or_default, length-map, set_comm, exchanged, is_hole_kind, is_special, kept_kind_at, slot_names, open_of, opened_by, same_name_of, same_node_of, sets_at, tag_of, AreHoles, KeepSets, KeptNode}
 use Rattle.hopen.specs.declared.kept.Kind.TheVariants as kind
 use Rattle.hopen.proofs.Passed.{sets-exchanged}
 use Rattle.hopen.proofs.Projected.{opened-at, part-at, two-exchanged, two-same, two-upper}
@@ -24,7 +24,7 @@ module _ (items : List KeptNode) (i j : ℕ) (x y : KeptNode) (less : i < j) (wi
     new-sets g = ap (map sets_at) written ∙ two-upper sets_at items i j a b x less (g ∙ ap sets_at lower-is)
 
   sets-are : KeepSets (map opened_by items) (map sets_at items) → is_hole_kind x.kind ≡ false → is_special (tag_of x.opened.name) ≡ false
-      → is_hole_kind y.kind ≡ false → AreHoles i j (names_in (map opened_by items))
+      → is_hole_kind y.kind ≡ false → AreHoles i j (slot_names (map opened_by items))
       → (a b : KeptNode) → opened_by a ≡ opened_by y → opened_by b ≡ opened_by x → a.sets ≡ y.sets → b.sets ≡ y.sets
       → KeepSets (map opened_by (set (set items j b) i a)) (map sets_at (set (set items j b) i a))
   sets-are k live plain lives holes a b oa ob sa sb =

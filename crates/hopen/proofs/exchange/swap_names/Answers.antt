@@ -1,4 +1,4 @@
-use Rattle.hopen.proofs.Names.{◌≡◌, ◌≢◌, ℕ, suc, ◌+◌, ◌<◌, ◌&&◌, eqb, cond, List, length, map, get_or, set, sym, ◌∙◌, ap, subst, arith, eqb-true, eqb-false, get_or-set_same, get_or-set_other, length-map, length-set, IsHeldLevel, IsLinked, names_in, opened_by, same_name_of, level_exchanged, KeptNode}
+use Rattle.hopen.proofs.Names.{◌≡◌, ◌≢◌, ℕ, suc, ◌+◌, ◌<◌, ◌&&◌, eqb, cond, List, length, map, get_or, set, sym, ◌∙◌, ap, subst, arith, eqb-true, eqb-false, get_or-set_same, get_or-set_other, length-map, length-set, IsHeldLevel, IsLinked, slot_names, opened_by, same_name_of, level_exchanged, KeptNode}
 use Rattle.hopen.proofs.Projected.{held-within, length-names, name-at, name-in, same_name-at}
 use Rattle.hopen.proofs.Swapped.{exchanged-same, linked-swapped, moved-list, moved-table}
 use Rattle.hopen.proofs.exchange.swap_names.Goals as goal
@@ -57,7 +57,7 @@ returns-then-eq-clause-linked c =
     let y = c.index-items-below.result in
     let first = c.index-items-index.is in
     let second = c.index-items-below.is in
-    let ns = names_in (map opened_by items) in
+    let ns = slot_names (map opened_by items) in
     let same : get_or ns i 0 ≡ get_or ns j 0 =
     name-at items i x (omega (arith, c.requires.order, c.requires.within)) first (c.requires.upper x first)
     ∙ ap suc (eqb-true _ _ (sym c.eq.ensures ∙ c.if-eq.true))
@@ -70,7 +70,7 @@ returns-clause-linked c =
     let i : ℕ = c.args.index in
     let j : ℕ = c.args.below in
     let t : List ℕ = c.args.names.now in
-    let ns : List ℕ = names_in (map opened_by items) in
+    let ns : List ℕ = slot_names (map opened_by items) in
     let bs : List ℕ = map same_name_of items in
     let x : KeptNode = c.index-items-index.result in
     let y : KeptNode = c.index-items-below.result in

@@ -1,17 +1,17 @@
-use Rattle.hopen.proofs.Names.{◌≡◌, List, Some, drop, length, ◌∙◌, sym, ap, subst, map, rules, arith, AreIn, IsInSets, LevelsStand, opened_by, open_of, KeptNode, Open, common_steps, insert}
-use Rattle.hopen.proofs.Held.{held}
-use Rattle.hopen.proofs.SlotEdits.{map-insert, numbers-inserted}
+use Rattle.hopen.proofs.Names.{◌≡◌, ◌∷◌, ◌++◌, List, drop, ◌∙◌, sym, ap, subst, map, rules, take, take_at, take-map, drop-map, map-append, length-take-le, All-append, All-cons, All-drop, All-take, AreIn, IsIn, LevelsStand, LevelsTo, opened_by, KeptNode, insert, ℕ}
+use Rattle.hopen.proofs.Standing.{in-as-long, levels-front, stands-in}
 use Rattle.hopen.proofs.WrittenBack.{written_back}
 use Rattle.hopen.proofs.kept.insert.Goals as goal
+
+map-insert : {X Y : Type 0} (f : X → Y) (xs : List X) (i : ℕ) (x : X) → map f (insert xs i x) ≡ insert (map f xs) i (f x)
+map-insert f xs i x = map-append f (take i xs) (x ∷ drop i xs) ∙ (λ k. sym (take-map f i xs) k ++ f x ∷ sym (drop-map f i xs) k)
 
 pub returns-clause-items : goal.returns-clause-items
 returns-clause-items c =
     let put : c.insert.new.self.items ≡ insert c.args.items.now.items c.args.index c.new.result = search rules in
     ap (map opened_by) (written_back c.rewind.new.items _ _ _ c.rewind.ensures.same c.deref_mut.ensures.value c.deref_mut.ensures.len)
     ∙ c.rewind.ensures.same ∙ ap (map opened_by) (c.deref_mut.ensures.value ∙ put)
-    ∙ map-insert opened_by c.args.items.now.items c.args.index c.new.result
-    ∙ ap (insert (map opened_by c.args.items.now.items) c.args.index) (held c.new.result c.new.ensures.live
-    ∙ ap (λ (z : Open). Some (open_of z)) c.new.ensures.opened)
+    ∙ map-insert opened_by c.args.items.now.items c.args.index c.new.result ∙ ap (insert (map opened_by c.args.items.now.items) c.args.index) c.new.ensures
 
 pub returns-clause-stands : goal.returns-clause-stands
 returns-clause-stands c =
@@ -19,23 +19,24 @@ returns-clause-stands c =
     c.rewind.ensures.stands
 
 pub rewind-requires-clause-stands : goal.rewind-requires-clause-stands
-rewind-requires-clause-stands c = grind (arith, common_steps)
+rewind-requires-clause-stands c =
+    let items : List KeptNode = c.args.items.now.items in
+    let i = c.args.index in
+    let put : c.insert.new.self.items ≡ insert items i c.new.result = search rules in
+    levels-front i c.unwind.new.last c.deref_mut.result.now items (ap (take i) (c.deref_mut.ensures.value ∙ put)
+    ∙ take_at (take i items) (c.new.result ∷ drop i items) i (length-take-le i items c.requires.within))
+    (subst (λ (xs : List KeptNode). LevelsTo i c.unwind.new.last xs) c.deref.ensures.value c.unwind.ensures.stands)
 
 pub rewind-requires-clause-numbers : goal.rewind-requires-clause-numbers
 rewind-requires-clause-numbers c =
-    let put : c.insert.new.self.items ≡ insert c.args.items.now.items c.args.index c.new.result = search rules in
-    let all = c.args.items.now.items in
-    let names = length c.unwind.new.last.names.items in
-    let nodes = length c.unwind.new.last.nodes.items in
-    let numbers : AreIn names nodes (map opened_by (drop c.args.index all)) = subst (λ (xs : List KeptNode). AreIn names nodes
-    (map opened_by (drop c.args.index xs))) c.deref.ensures.value c.unwind.ensures.numbers in
-    let new : Some (open_of c.args.new) ≡ opened_by c.new.result = sym (held c.new.result c.new.ensures.live
-    ∙ ap (λ (z : Open). Some (open_of z)) c.new.ensures.opened) in
-    let here : IsInSets names nodes (opened_by c.new.result) =
-    subst (IsInSets names nodes) new (
-      omega (arith, c.requires.new_in.0, c.unwind.ensures.tables.names),
-      omega
-          (arith, c.requires.new_in.1, c.unwind.ensures.tables.nodes),
-    ) in
-    subst (λ (xs : List KeptNode). AreIn names nodes (map opened_by (drop c.args.index xs))) (sym (c.deref_mut.ensures.value ∙ put))
-    (numbers-inserted all c.args.index c.new.result names nodes c.requires.within numbers here)
+    let items : List KeptNode = c.args.items.now.items in
+    let i = c.args.index in
+    let last = c.args.last.now in
+    let put : c.insert.new.self.items ≡ insert items i c.new.result = search rules in
+    let ys = map opened_by items in
+    let all : AreIn last ys = stands-in last items c.requires.stands in
+    let here : IsIn last (opened_by c.new.result) = subst (IsIn last) (sym c.new.ensures) c.requires.new_in in
+    in-as-long last c.unwind.new.last c.unwind.ensures.tables (map opened_by c.deref_mut.result.now)
+    (subst (AreIn last) (sym (ap (map opened_by) (c.deref_mut.ensures.value ∙ put) ∙ map-insert opened_by items i c.new.result))
+    (All-append (IsIn last) (take i ys) (opened_by c.new.result ∷ drop i ys) (All-take (IsIn last) i ys all)
+    (All-cons (IsIn last) (opened_by c.new.result) (drop i ys) here (All-drop (IsIn last) i ys all))))

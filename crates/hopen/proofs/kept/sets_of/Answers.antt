@@ -27,7 +27,7 @@ returns-then-not-is_hole c =
     ∙ held (get_or items (i - 1) x) (sym c.is_hole.ensures ∙ c.if-not-is_hole.true)) in
     λ set. sym (get_or-map (set_node set) (map sets_at items) (i - 1) z.sets 0 (omega (arith, length-map items sets_at))
     ∙ ap (set_node set) (get_or-map sets_at items (i - 1) z z.sets (omega arith)))
-    ∙ c.requires set (i - 1) (omega (arith, length-map items opened_by)) live ∙ ap (nearest_up set (map opened_by items)) next
+    ∙ c.requires.keep set (i - 1) (omega (arith, c.loop-index.invariant.within)) live ∙ ap (nearest_up set (map opened_by items)) next
     ∙ sym (c.loop-index.invariant.rest set)
 
 pub returns : goal.returns

@@ -2,7 +2,7 @@ use Rattle.hopen.proofs.Names.{◌≡◌, ◌+◌, suc, refl, ◌∙◌, ap, con
 use Rattle.hopen.proofs.kept.slot_below.Goals as goal
 
 pub returns : goal.returns
-returns c = λ above kept.
+returns c = λ items n kept.
     let names = c.args.last.now.names.items in
     let nodes = c.args.last.now.nodes.items in
     let next : c.index-3.result + 1 ≡ suc c.args.opened.node = omega (arith, c.index-3.ensures) in

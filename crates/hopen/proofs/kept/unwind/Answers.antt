@@ -1,26 +1,67 @@
-use Rattle.hopen.proofs.Names.{◌≡◌, ◌-◌, ◌+◌, ◌∙◌, subst, take, drop, arith, LevelsStand, AreIn, length, map, opened_by}
+use Rattle.hopen.proofs.Names.{◌≡◌, ℕ, None, suc, List, ◌-◌, ◌<◌, ◌∙◌, sym, refl, subst, arith, length, opened_by, KeptNode, LastLevels, LevelsTo}
+use Rattle.hopen.proofs.Held.{held, no-node}
+use Rattle.hopen.proofs.Projected.{part-at}
+use Rattle.hopen.proofs.Standing.{levels-counted, levels-hole, levels-in, levels-less, stands-to}
 use Rattle.hopen.proofs.kept.unwind.Goals as goal
 
-pub close_at-requires-clause-stands : goal.close_at-requires-clause-stands
-close_at-requires-clause-stands c =
-    let next : c.loop-end.end ≡ c.loop-end.end - 1 + 1 = omega arith in
-    subst (λ n. LevelsStand c.loop-end.last (take n c.args.items.now)) next c.loop-end.invariant.stands
-
-pub close_at-requires-clause-numbers : goal.close_at-requires-clause-numbers
-close_at-requires-clause-numbers c =
-    let next : c.loop-end.end ≡ c.loop-end.end - 1 + 1 = omega arith in
-    subst (λ n. AreIn (length c.loop-end.last.names.items) (length c.loop-end.last.nodes.items) (map opened_by (drop n c.args.items.now))) next
-    c.loop-end.invariant.numbers
-
-pub loop-end-preserved : goal.loop-end-preserved
-loop-end-preserved c = record {
+pub loop-end-init : goal.loop-end-init
+loop-end-init c = record {
   within = omega arith;
   above = omega arith;
-  stands = c.close_at.ensures.stands;
-  numbers = c.close_at.ensures.numbers;
-  tables = record {
-    names = c.close_at.ensures.tables.names ∙ c.loop-end.invariant.tables.names;
-    nodes = c.close_at.ensures.tables.nodes ∙ c.loop-end.invariant.tables.nodes;
-    holes = c.close_at.ensures.tables.holes ∙ c.loop-end.invariant.tables.holes;
-  };
+  stands = stands-to c.args.last.now c.args.items.now c.requires.stands;
+  tables = record { names = refl; nodes = refl; holes = refl };
 }
+
+-- the slot that was the last
+slot-stands : (n : ℕ) (last : LastLevels) (items : List KeptNode) → 0 < n → LevelsTo n last items → LevelsTo (suc (n - 1)) last items
+slot-stands n last items some s = let next : n ≡ suc (n - 1) = omega arith in subst (λ k. LevelsTo k last items) next s
+
+pub take_back-requires-clause-room : goal.take_back-requires-clause-room
+take_back-requires-clause-room c =
+    levels-in c.args.items.now (c.loop-end.end - 1) (omega (arith, c.loop-end.invariant.within)) c.loop-end.last c.index-items-end.result c.index-items-end.is
+    (slot-stands c.loop-end.end c.loop-end.last c.args.items.now (omega arith) c.loop-end.invariant.stands)
+    (held c.index-items-end.result (sym c.is_hole.ensures ∙ c.if-not-is_hole.true))
+
+pub take_back-requires-clause-counted : goal.take_back-requires-clause-counted
+take_back-requires-clause-counted c =
+    levels-counted c.args.items.now (c.loop-end.end - 1) (omega (arith, c.loop-end.invariant.within)) c.loop-end.last c.index-items-end.result
+    c.index-items-end.is
+    (slot-stands c.loop-end.end c.loop-end.last c.args.items.now (omega arith) c.loop-end.invariant.stands)
+    (held c.index-items-end.result (sym c.is_hole.ensures ∙ c.if-not-is_hole.true))
+
+pub loop-end-preserved-then-not-is_hole : goal.loop-end-preserved-then-not-is_hole
+loop-end-preserved-then-not-is_hole c =
+    let items = c.args.items.now in
+    let last = c.loop-end.last in
+    let x = c.index-items-end.result in
+    let s = slot-stands c.loop-end.end last items (omega arith) c.loop-end.invariant.stands in
+    let long = c.loop-end.invariant.tables in
+    let t = c.take_back.ensures.tables in
+    record {
+      within = omega (arith, c.loop-end.invariant.within);
+      above = omega arith;
+      stands = levels-less items (c.loop-end.end - 1) (omega (arith, c.loop-end.invariant.within)) last x c.index-items-end.is s
+          (held x (sym c.is_hole.ensures ∙ c.if-not-is_hole.true)) c.take_back.new.self c.take_back.ensures.names c.take_back.ensures.nodes
+          c.take_back.ensures.closes;
+      tables = record { names = t.names ∙ long.names; nodes = t.nodes ∙ long.nodes; holes = t.holes ∙ long.holes };
+    }
+
+pub loop-end-preserved : goal.loop-end-preserved
+loop-end-preserved c =
+    let items = c.args.items.now in
+    let i = c.loop-end.end - 1 in
+    let last = c.loop-end.last in
+    let x = c.index-items-end.result in
+    let within : i < length items = omega (arith, c.loop-end.invariant.within) in
+    record {
+      within = omega (arith, c.loop-end.invariant.within);
+      above = omega arith;
+      stands = levels-hole items i within last (slot-stands c.loop-end.end last items (omega arith) c.loop-end.invariant.stands)
+          (part-at opened_by None items i x within c.index-items-end.is ∙ no-node x (sym c.is_hole.ensures ∙ c.if-not-is_hole.false));
+      tables = c.loop-end.invariant.tables;
+    }
+
+pub returns-clause-stands : goal.returns-clause-stands
+returns-clause-stands c =
+    let all : c.loop-end.end ≡ c.args.from = omega (arith, c.loop-end.invariant.above) in
+    subst (λ n. LevelsTo n c.loop-end.last c.args.items.now) all c.loop-end.invariant.stands

@@ -1,4 +1,4 @@
-use Rattle.hopen.proofs.Names.{◌≡◌, ◌-◌, map, set, get_or, sym, ◌∙◌, ap, subst, map-set, get_or_default, get_or-set_other, with_items_is, opened_by, same_name_of, same_node_of, sets_at, set_node, kept_kind_at, closing, is_hole_kind, KeptNode, IsAlone, IsLinked, names_in}
+use Rattle.hopen.proofs.Names.{◌≡◌, ◌-◌, map, set, get_or, sym, ◌∙◌, ap, subst, map-set, get_or_default, get_or-set_other, with_items_is, opened_by, same_name_of, same_node_of, sets_at, set_node, kept_kind_at, closing, is_hole_kind, KeptNode, IsAlone, IsLinked, slot_names}
 use Rattle.hopen.proofs.Gone.{kind-counted, node-known, stands-left}
 use Rattle.hopen.proofs.Held.{no-node}
 use Rattle.hopen.proofs.leaving.leave.Goals as goal
@@ -46,5 +46,5 @@ returns-clause-stands c =
     ∙ ap (λ l. get_or l m 0) (map-set (set_node group) (map sets_at left) i h.sets)
     ∙ get_or-set_other (map (set_node group) (map sets_at left)) i m (set_node group h.sets) 0 ne ∙ ap (λ l. get_or (map (set_node group) l) m 0) rest.sets)
     (map-set kept_kind_at left i h ∙ (λ t. set (rest.kinds t) i (c.hole.ensures.hole t)))
-    (subst (λ l. IsLinked l (set (names_in (map opened_by items)) i 0) (set (map same_name_of left) i 0)) (sym names) c.unlink_name.ensures.linked)
+    (subst (λ l. IsLinked l (set (slot_names (map opened_by items)) i 0) (set (map same_name_of left) i 0)) (sym names) c.unlink_name.ensures.linked)
     c.forget.ensures.nodes (c.forget.ensures.closes ∙ ap (λ (z : KeptNode). c.args.last.now.must_close - closing z.kind) (sym other))

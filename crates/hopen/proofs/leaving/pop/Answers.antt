@@ -1,5 +1,5 @@
 use Rattle.hopen.proofs.Names.{◌∙◌, arith}
-use Rattle.hopen.proofs.Trimmed.{full-ends}
+use Rattle.hopen.proofs.Trimmed.{full-ends, stack-holes}
 use Rattle.hopen.proofs.leaving.pop.Goals as goal
 
 pub returns-then-last-eq0-clause-rests : goal.returns-then-last-eq0-clause-rests
@@ -8,7 +8,7 @@ returns-then-last-eq0-clause-rests c =
     record {
       stands = taken.stands;
       ends = full-ends c.take_last.new.items.items (omega (arith, taken.holes));
-      holes = taken.holes;
+      holes = omega (arith, taken.holes, stack-holes c.take_last.new.items.items);
       levels = omega (arith, c.requires.levels, taken.len);
     }
 

@@ -1,5 +1,5 @@
-use Rattle.hopen.proofs.Names.{◌≡◌, ◌∙◌, sym, ap, subst, arith, List, None, length, map, reverse, set, with_items, with_items_is, opened_by, somes, LevelsStand, KeptNode}
-use Rattle.hopen.proofs.SlotEdits.{length-gone}
+use Rattle.hopen.proofs.Names.{◌≡◌, ◌∙◌, sym, ap, subst, arith, List, None, map, reverse, set, length-map, with_items, with_items_is, opened_by, somes, gap, sum_by, LevelsStand, KeptNode}
+use Rattle.hopen.proofs.Trimmed.{holes-left, stack-holes}
 use Rattle.hopen.proofs.leaving.remove.Goals as goal
 
 pub overflow_add-last : goal.overflow_add-last
@@ -9,8 +9,10 @@ overflow_add-last c =
       arith,
       c.make_hole.ensures.tables.holes,
       c.requires.rests.holes,
+      stack-holes items,
       c.requires.rests.levels,
-      length-gone (map opened_by items) c.args.index c.requires.live,
+      (holes-left (map opened_by items) c.args.index (omega (arith, length-map items opened_by)) c.requires.live).1,
+      length-map items opened_by,
     )
 
 pub tidy-requires-clause-stands : goal.tidy-requires-clause-stands
@@ -30,11 +32,9 @@ tidy-requires-clause-holes c =
       arith,
       c.make_hole.ensures.tables.holes,
       c.requires.rests.holes,
-      ap (λ ys. length (somes (reverse ys))) opened,
-      length-gone (map opened_by items) c.args.index c.requires.live,
-      ap length back,
-      c.make_hole.auto.items,
-      ap length c.deref_mut.ensures.value,
+      stack-holes items,
+      ap (sum_by gap) opened,
+      (holes-left (map opened_by items) c.args.index (omega (arith, length-map items opened_by)) c.requires.live).0,
     )
 
 pub returns-clause-items : goal.returns-clause-items

@@ -1,5 +1,5 @@
-use Rattle.hopen.proofs.Names.{◌≡◌, ◌-◌, ◌<◌, List, None, length, map, take, get_or, sym, ap, ◌∙◌, subst, arith, rules, length-take-le, opened_by, stack_of, LevelsStand, EndsOpen, KeptNode}
-use Rattle.hopen.proofs.Trimmed.{first-of, length-stack, stack-trimmed, stands-trimmed}
+use Rattle.hopen.proofs.Names.{◌≡◌, ◌-◌, ◌<◌, List, None, length, map, take, get_or, sym, ap, ◌∙◌, subst, arith, rules, length-take-le, opened_by, stack_of, LevelsStand, EndsOpen, KeptNode, gap, sum_by}
+use Rattle.hopen.proofs.Trimmed.{holes-trimmed, stack-holes, stack-trimmed, stands-trimmed}
 use Rattle.hopen.proofs.leaving.trim.Goals as goal
 
 pub overflow_sub-last : goal.overflow_sub-last
@@ -7,37 +7,25 @@ overflow_sub-last c =
     let items = c.loop-items.items.items in
     let h = subst (λ (xs : List KeptNode). (0 < length xs) × (get_or (map opened_by xs) (length xs - 1) None ≡ None)) c.deref.ensures.value
     (c.ends_in_hole.ensures.hole c.loop-items-test.true) in
-    omega (
-      arith,
-      h.0,
-      ap length (stack-trimmed items h.0 h.1 (first-of items h.0)),
-      length-stack (take (length items - 1) items),
-      length-take-le (length items - 1) items (omega arith),
-      c.loop-items.invariant.holes,
-    )
+    omega (arith, holes-trimmed items h.0 h.1, c.loop-items.invariant.holes)
 
 pub loop-items-preserved : goal.loop-items-preserved
 loop-items-preserved c =
     let items = c.loop-items.items.items in
     let h = subst (λ (xs : List KeptNode). (0 < length xs) × (get_or (map opened_by xs) (length xs - 1) None ≡ None)) c.deref.ensures.value
     (c.ends_in_hole.ensures.hole c.loop-items-test.true) in
-    let d = first-of items h.0 in
     let left : c.truncate.new.self.items ≡ take (length items - 1) items = search rules in
-    let same : stack_of c.truncate.new.self.items ≡ stack_of items = ap stack_of left ∙ stack-trimmed items h.0 h.1 d in
+    let same : stack_of c.truncate.new.self.items ≡ stack_of items = ap stack_of left ∙ stack-trimmed items h.0 h.1 in
     let s : LevelsStand c.loop-items.last c.truncate.new.self.items = subst (LevelsStand c.loop-items.last) (sym left)
-    (stands-trimmed items h.0 h.1 c.loop-items.last d c.loop-items.invariant.stands) in
+    (stands-trimmed items h.0 h.1 c.loop-items.last c.loop-items.invariant.stands) in
     let many : length (take (length items - 1) items) ≡ length items - 1 = length-take-le (length items - 1) items (omega arith) in
     record {
       stands = record { names = s.names; nodes = s.nodes; sets = s.sets; kinds = s.kinds; closes = s.closes; fits = s.fits };
       holes = omega (
         arith,
-        h.0,
-        ap length same,
-        ap length left,
-        many,
+        holes-trimmed items h.0 h.1,
+        ap (λ (xs : List KeptNode). sum_by gap (map opened_by xs)) left,
         c.loop-items.invariant.holes,
-        ap length (stack-trimmed items h.0 h.1 d),
-        length-stack (take (length items - 1) items),
       );
       same = same ∙ c.loop-items.invariant.same;
       names = c.loop-items.invariant.names;
@@ -50,6 +38,6 @@ pub returns-clause-rests : goal.returns-clause-rests
 returns-clause-rests c = record {
   stands = c.loop-items.invariant.stands;
   ends = subst (λ (xs : List KeptNode). EndsOpen (map opened_by xs)) c.deref.ensures.value (c.ends_in_hole.ensures.live c.loop-items-test.false);
-  holes = c.loop-items.invariant.holes;
+  holes = omega (arith, c.loop-items.invariant.holes, stack-holes c.loop-items.items.items);
   levels = omega (arith, c.loop-items.invariant.len, c.requires.levels);
 }

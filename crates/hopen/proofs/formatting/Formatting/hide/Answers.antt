@@ -1,4 +1,4 @@
-use Rattle.hopen.proofs.Names.{◌≡◌, suc, ◌+◌, ◌-◌, ◌<◌, length, take, refl, sym, ◌∙◌, ap, arith, list_any, remove, is_entry, hole, item_of, listed_items, live, by_node, without, drop_nearest, no_words, set_nearest, words, ◌==◌, up-within, ℕ, List, Bool, Listed, Stored, AreSlots, nowhere, position, Some}
+use Rattle.hopen.proofs.Names.{◌≡◌, suc, ◌+◌, ◌-◌, ◌<◌, length, refl, sym, ◌∙◌, ap, arith, list_any, remove, is_entry, hole, item_of, listed_items, live, by_node, without, drop_nearest, no_words, set_nearest, words, ◌==◌, up-within, ℕ, List, Bool, Listed, Stored, AreSlots, nowhere, position, Some}
 use Rattle.hopen.specs.declared.entry.Slot.TheVariants as stored
 use Rattle.hopen.proofs.Holes.{before-any, number-placed, no-position, node-at, node-none, node_place, placed, placed-within, slots-are}
 use Rattle.hopen.proofs.ItemLists.{length-items_of}
@@ -33,10 +33,9 @@ hide-requires-clause-within c = omega (
       c.self.invariant c.node_number.ensures c.last-place.ensures,
 )
 
-pub pop-requires-clause-some : goal.pop-requires-clause-some
-pop-requires-clause-some c = omega (
+pub truncate-requires-clause-within : goal.truncate-requires-clause-within
+truncate-requires-clause-within c = omega (
   arith,
-  c.if-place-eq0.false,
   placed-within c.args.node c.node_number.result c.last-place.result
       c.self.inside.slots c.self.invariant c.node_number.ensures c.last-place.ensures,
 )
@@ -102,7 +101,7 @@ module _ (c : goal.After-trim) where
         | else-place-len w ↦
             let last : 0 ≡ up = omega (arith, at, w.if-place-len.false) in
             ap (λ f. live (listed_items f.slots.items.items)) w.self-inside-is
-            ∙ ap (λ xs. live (listed_items xs)) (w.pop.ensures.items ∙ ap (λ k. take k items) (omega (arith, last, at)))
+            ∙ ap (λ xs. live (listed_items xs)) w.truncate.ensures.items
             ∙ ap live (sym (drop_nearest item_of items i 1 (omega (arith, last, at)))) ∙ ap (λ k. live (remove view k)) last
       ]
 
