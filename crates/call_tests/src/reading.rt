@@ -1,29 +1,78 @@
 //! What a sink has that `read_into` handed a document to, where the reading did not come to its end.
 
-use crate::counted::Faulty;
-use crate::given::Taken;
+use crate::taken::Taken;
 use hwrite::{Counted, Keys, Options, Quirks, Refusal, Table, read_into};
+use names::RefusedName;
 use std::alloc::Global;
+use std::io;
+use std::io::Read;
 use std::test::Fail;
 
-/// Whether a sink with room for so many items has taken this text, and refused this many, of a reader that gives `xxx` and then fails.
-fn takes(alloc: Global, options: &Options<'_>, left: u32, text: &str, refused: u32) -> bool {
-    let mut source = Counted::new(Faulty::at(3));
+/// Gives a byte a read, and fails where there is no more.
+#[derive(Drop)]
+struct Broken<'a> {
+    bytes: &'a [u8],
+    at: usize,
+}
+
+impl Read for Broken<'_> {
+    fn read(&mut self, buffer: &mut [u8]) -> io::Result<usize> {
+        let Some(byte) = self.bytes.get(self.at) else {
+            return Err(io::ErrorKind::Interrupted.into());
+        };
+        let Some(place) = buffer.first_mut() else {
+            return Ok(0);
+        };
+        *place = *byte;
+        self.at = self.at.saturating_add(1);
+        Ok(1)
+    }
+}
+
+/// An input, for how many items a sink has room, what it takes, and why the reading ends. A sink that refuses is handed nothing more, and
+/// none is handed an end after a read that failed.
+const ENDED: [(&str, u32, &str, Refusal); 5] = [
+    ("xxx", 99, "xxx", Refusal::Read),
+    ("xxx", 1, "x", Refusal::Write),
+    ("a\x01€", 2, "a!", Refusal::Write),
+    ("<p></p>", 1, "S", Refusal::Write),
+    (
+        "<p>x<svg>",
+        99,
+        "Sx",
+        Refusal::OutOfProfile {
+            name: RefusedName::Svg,
+            at: 4,
+        },
+    ),
+];
+
+/// Whether a sink with room for so many items takes this of an input, and refuses one more where that ends the reading.
+fn takes(
+    alloc: Global,
+    options: &Options<'_>,
+    input: &str,
+    left: u32,
+    text: &str,
+    refusal: Refusal,
+) -> bool {
+    let bytes = input.as_bytes();
+    let mut source = Counted::new(Broken { bytes, at: 0 });
     let (sink, answer) = read_into(alloc, 2, options, Taken::new(alloc, left), &mut source);
-    let refusal = if refused == 0 {
-        Refusal::Read
-    } else {
-        Refusal::Write
-    };
+    let refused = u32::from(refusal == Refusal::Write);
     answer.err() == Some(refusal) && sink.text.as_str() == text && sink.refused == refused
 }
 
-/// Whether a sink is handed no end after a read that failed, and nothing after what it refused.
+/// Whether all do.
 fn all_take(alloc: Global) -> Result<bool, Refusal> {
     let table = Table::core(alloc)?;
     let quirks = Quirks::read(alloc, "")?;
     let options = Options::new(&table, &quirks, Keys::for_tests());
-    Ok(takes(alloc, &options, 99, "xxx", 0) && takes(alloc, &options, 1, "x", 1))
+    let mut all = true;
+    for (input, left, text, refusal) in ENDED {
+        all = all && takes(alloc, &options, input, left, text, refusal);
+    }
+    Ok(all)
 }
 
 #[test]

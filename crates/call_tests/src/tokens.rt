@@ -1,9 +1,9 @@
 //! What a tokenizer holds of a text that goes on.
 
-use crate::given::{Taken, feed};
+use crate::taken::Taken;
 use charref::Table;
 use htoken::{Start, Tokenizer};
-use names::{Keys, Names};
+use names::{Keys, Names, Refusal};
 use std::alloc::Global;
 use std::test::Fail;
 
@@ -25,6 +25,19 @@ const HELD: [(&str, u64, &str); 12] = [
     ("<p a=\"b", 0, ""),
     ("&#6", 0, ""),
 ];
+
+/// Feeds a text that goes on.
+fn feed(
+    tokenizer: &mut Tokenizer<'_>,
+    names: &mut Names,
+    text: &str,
+    sink: &mut Taken,
+) -> Result<(), Refusal> {
+    for (place, ch) in text.char_indices() {
+        tokenizer.feed_char(names, ch, place as u64, sink)?;
+    }
+    Ok(())
+}
 
 /// Whether a text is held from there on, and that was given.
 fn is_held(alloc: Global, table: &Table, text: &str, from: u64, given: &str) -> bool {

@@ -1,8 +1,7 @@
-//! The sink of the tests, and what feeds a tokenizer.
+//! The sink of the tests.
 
 use hmarkup::ErrorSink;
-use htext::CharSink;
-use htoken::{Token, TokenSink, Tokenizer};
+use htoken::{Token, TokenSink};
 use names::{Names, ParseError, Refusal};
 use std::alloc::Global;
 
@@ -32,18 +31,6 @@ impl Taken {
         self.left -= 1;
         self.text.push(ch)?;
         Ok(())
-    }
-}
-
-impl CharSink for Taken {
-    ghost gives = { λ _ _ _ _. Unit {0} };
-
-    fn take_char(&mut self, ch: char, _at: u64) -> Result<(), Refusal> {
-        self.add(ch)
-    }
-
-    fn take_error(&mut self, _error: ParseError) -> Result<(), Refusal> {
-        self.add('!')
     }
 }
 
@@ -81,17 +68,4 @@ fn letter(token: &Token) -> char {
         Token::Char { ch, .. } => *ch,
         Token::Eof { .. } => '.',
     }
-}
-
-/// Feeds a text that goes on.
-pub fn feed(
-    tokenizer: &mut Tokenizer<'_>,
-    names: &mut Names,
-    text: &str,
-    sink: &mut Taken,
-) -> Result<(), Refusal> {
-    for (place, ch) in text.char_indices() {
-        tokenizer.feed_char(names, ch, place as u64, sink)?;
-    }
-    Ok(())
 }
