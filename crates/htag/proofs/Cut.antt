@@ -1,9 +1,10 @@
 -- A tag that the input's end cuts off.
-use Rattle.htag.proofs.Vocabulary.{◌≡◌, ℕ, Bool, true, false, not, ◌||◌, eqb, List, [], ◌∷◌, ◌++◌, map, sym, refl, ap, ◌∙◌, subst, append-nil, append_assoc, Some, None, string_bytes, ParseError, Placed, Texts, begins, stops, all, past, place, is_space, is_equals, is_quote, null_errors, and_parts, Entities, TagState, TagWalk, pieces_text, value_bytes, EndsValue, Part, IsPart, AreParts, parts_text, part_errors_after, tag_errors, ends_name, ends_attribute_name, ends_unquoted, attribute_name_errors, value_errors, unquoted_errors, attribute_part, repeated, KeepsTag, EndsAttribute, walked_attribute, names_after, HasName, HasPhase, IsPast, IsInTag}
+use Rattle.htag.proofs.Vocabulary.{◌≡◌, ℕ, Bool, true, false, not, ◌||◌, eqb, List, [], ◌∷◌, ◌++◌, map, sym, refl, ap, ◌∙◌, subst, append-nil, append_assoc, None, string_bytes, ParseError, Placed, Texts, begins, stops, all, past, is_space, is_equals, is_quote, null_errors, and_parts, Entities, TagWalk, pieces_text, value_bytes, EndsValue, Part, IsPart, AreParts, parts_text, part_errors_after, tag_errors, ends_name, ends_attribute_name, ends_unquoted, attribute_name_errors, value_errors, unquoted_errors, attribute_part, repeated, KeepsTag, EndsAttribute, names_after, HasName, IsInTag}
 use Rattle.htag.specs.declared.tag_state.TagState.TheVariants as phase
 use Rattle.htag.specs.TagWalk.{IsCutTag}
-use Rattle.htag.proofs.Parts.{parts_text-append, parts_text-snoc, AreParts-append, AreParts-snoc, holds_same}
-use Rattle.htag.proofs.Phases.{space_part, part_errors, keeps_self}
+use Rattle.htag.proofs.Going.{held_in, past_is, attribute_told}
+use Rattle.htag.proofs.Parts.{part_errors, parts_text-append, parts_text-snoc, AreParts-append, AreParts-snoc}
+use Rattle.htag.proofs.Phases.{space_part, keeps_self}
 use Rattle.htag.proofs.Values.{sign_stops}
 
 -- white space at the end
@@ -28,12 +29,6 @@ only_spaces [] h = refl
 only_spaces (p ∷ ps) h = let parts = and_parts (is_space p.ch) (all is_space ps) h in let e : is_space p.ch ≡ true = parts.0 in rw e (only_spaces ps parts.1)
 
 module _ (table : Entities) (names : Texts) (walk : TagWalk) (body : List Placed) (errors : List ParseError) (h : IsInTag table names walk body [] errors) where
-  holds_at_end : (ph : TagState) → walk.phase ≡ ph → HasPhase ph table walk h.parts h.held h.own
-  holds_at_end ph e = subst (λ (x : TagState). HasPhase x table walk h.parts h.held h.own) e h.has_phase
-
-  past_at_end : (ph : TagState) → walk.phase ≡ ph → IsPast ph (begins ends_name (parts_text h.parts ++ (h.held ++ [])))
-  past_at_end ph e = subst (λ (x : TagState). IsPast x (begins ends_name (parts_text h.parts ++ (h.held ++ [])))) e h.past
-
   begins-stops : (test : ℕ → Bool) (xs : List Placed) → begins test xs ≡ true → stops test xs ≡ true
   begins-stops test [] e = refl
   begins-stops test (x ∷ xs) e = e
@@ -58,11 +53,11 @@ module _ (table : Entities) (names : Texts) (walk : TagWalk) (body : List Placed
 
   pub cut_in_name : walk.phase ≡ phase.TagName → IsCutTag table body errors
   cut_in_name e =
-      let nothing = holds_at_end phase.TagName e in
+      let nothing = held_in table names walk body [] errors h phase.TagName e in
       whole_parts nothing.1 nothing.2 (ap (λ (x : List Part). stops ends_name (parts_text x ++ (h.held ++ []))) nothing.0 ∙ ap (λ (x : List Placed). stops ends_name (x ++ [])) nothing.1)
 
   pub cut_before_attribute : walk.phase ≡ phase.BeforeAttributeName → IsCutTag table body errors
-  cut_before_attribute e = let nothing = holds_at_end phase.BeforeAttributeName e in whole_parts nothing.0 nothing.1 (begins-stops ends_name (parts_text h.parts ++ (h.held ++ [])) (past_at_end phase.BeforeAttributeName e))
+  cut_before_attribute e = let nothing = held_in table names walk body [] errors h phase.BeforeAttributeName e in whole_parts nothing.0 nothing.1 (begins-stops ends_name (parts_text h.parts ++ (h.held ++ [])) (past_is table names walk body [] errors h phase.BeforeAttributeName e))
 
   -- a part is being read
   cut_part : (part : Part) → part.text ≡ h.held → ((end : ℕ) → IsPart table end [] part) → (e later : List ParseError) → part.errors ≡ h.own ++ e → later ≡ (errors ++ e) ++ repeated (names_after [] h.parts) part.attribute
@@ -74,81 +69,72 @@ module _ (table : Entities) (names : Texts) (walk : TagWalk) (body : List Placed
 
   pub cut_after_solidus : walk.phase ≡ phase.SelfClosingStartTag → IsCutTag table body errors
   cut_after_solidus e =
-      let s = holds_at_end phase.SelfClosingStartTag e in
-      cut_part (record { text = s.0 ∷ []; attribute = None; errors = [] }) (sym s.2) (λ end. IsPart.solidus s.0 s.1 refl refl) [] errors (sym (append-nil h.own ∙ s.3)) (sym (append-nil (errors ++ []) ∙ append-nil errors)) (past_at_end phase.SelfClosingStartTag e)
+      let s = held_in table names walk body [] errors h phase.SelfClosingStartTag e in
+      cut_part (record { text = s.0 ∷ []; attribute = None; errors = [] }) (sym s.2) (λ end. IsPart.solidus s.0 s.1 refl refl) [] errors (sym (append-nil h.own ∙ s.3)) (sym (append-nil (errors ++ []) ∙ append-nil errors)) (past_is table names walk body [] errors h phase.SelfClosingStartTag e)
 
   -- the part is an attribute
   module _ (mid_walk : TagWalk) (keeps : KeepsTag walk mid_walk) (attribute : mid_walk.attribute ≡ walk.attribute) (at : mid_walk.at ≡ walk.at) (mid : List ParseError) (after : Texts) (new : TagWalk) (later : List ParseError) (ends : EndsAttribute names after mid_walk mid new later) where
-    repeated_here : (name others : List Placed) (value : List ℕ) (e' e : List ParseError) → HasName walk name → string_bytes mid_walk.value.text ≡ value → mid ≡ errors ++ e
-        → later ≡ (errors ++ e) ++ repeated (names_after [] h.parts) (attribute_part name others value e').attribute
-    repeated_here name others value e' e has value_is mid_is =
-        let part : Part = attribute_part name others value e' in
-        let same : part.attribute ≡ Some (walked_attribute mid_walk) =
-        ap (λ (x : List ℕ). Some (record { name = x; value = value; at = place 0 name })) (sym has.is ∙ ap string_bytes (sym attribute)) ∙ ap (λ (x : List ℕ). Some (record { name = string_bytes mid_walk.attribute; value = x; at = place 0 name })) (sym value_is)
-        ∙ ap (λ (x : ℕ). Some (record { name = string_bytes mid_walk.attribute; value = string_bytes mid_walk.value.text; at = x })) (has.at_is ∙ sym at) in
-        let ended = ends.ends h.parts part same (holds_same names walk mid_walk h.parts keeps.seen_is keeps.attrs_are keeps.any_is h.has_attributes) in
-        ended.1 ∙ ap (λ (x : List ParseError). x ++ repeated (names_after [] h.parts) part.attribute) mid_is
-
     cut_attribute : (name others : List Placed) (value : List ℕ) (e' : List ParseError) → name ++ others ≡ h.held → ((end : ℕ) → IsPart table end [] (attribute_part name others value e')) → HasName walk name → string_bytes mid_walk.value.text ≡ value
         → (e : List ParseError) → attribute_name_errors name ++ e' ≡ h.own ++ e → mid ≡ errors ++ e → begins ends_name (parts_text h.parts ++ (h.held ++ [])) ≡ true → IsCutTag table body later
-    cut_attribute name others value e' text is has value_is e own mid_is gone = cut_part (attribute_part name others value e') text is e later own (repeated_here name others value e' e has value_is mid_is) gone
+    cut_attribute name others value e' text is has value_is e own mid_is gone = cut_part (attribute_part name others value e') text is e later own
+        ((attribute_told table names walk body [] errors h mid_walk keeps attribute at name others value e' has value_is mid after new later ends).1 ∙ ap (λ (x : List ParseError). x ++ repeated (names_after [] h.parts) (attribute_part name others value e').attribute) mid_is) gone
 
     pub cut_in_quotes : (mark : ℕ) → walk.phase ≡ phase.AttributeValueQuoted mark → EndsValue walk.value errors mid_walk.value mid → IsCutTag table body later
     cut_in_quotes mark before e =
-        let q = holds_at_end (phase.AttributeValueQuoted mark) before in
+        let q = held_in table names walk body [] errors h (phase.AttributeValueQuoted mark) before in
         let v = e.ends table true q.text q.raised q.value in
         cut_attribute q.name (q.sign ++ q.quote ++ pieces_text v.pieces) (value_bytes v.pieces) (value_errors v.pieces) (ap (λ (x : List Placed). q.name ++ (q.sign ++ q.quote ++ x)) (sym v.text_is) ∙ sym q.held_is)
         (λ end. IsPart.unclosed q.name q.sign q.quote v.pieces mark (record { first = q.has_name.first; runs = record { passes_none = q.has_name.runs; stops_after = sign_stops q.sign q.signed } }) q.signed q.opens q.is_mark
         (ap (all (λ c. not (eqb c mark))) (sym v.text_is) ∙ q.inside) v.are refl refl)
         q.has_name v.bytes e.more
-        (ap (λ (x : List ParseError). attribute_name_errors q.name ++ x) (sym v.errors_are) ∙ sym (append_assoc (attribute_name_errors q.name) q.raised e.more) ∙ ap (λ (x : List ParseError). x ++ e.more) (sym q.own_is)) e.later_is (past_at_end (phase.AttributeValueQuoted mark) before)
+        (ap (λ (x : List ParseError). attribute_name_errors q.name ++ x) (sym v.errors_are) ∙ sym (append_assoc (attribute_name_errors q.name) q.raised e.more) ∙ ap (λ (x : List ParseError). x ++ e.more) (sym q.own_is)) e.later_is (past_is table names walk body [] errors h (phase.AttributeValueQuoted mark) before)
 
     pub cut_in_unquoted : walk.phase ≡ phase.AttributeValueUnquoted → EndsValue walk.value errors mid_walk.value mid → IsCutTag table body later
     cut_in_unquoted before e =
-        let n = holds_at_end phase.AttributeValueUnquoted before in
+        let n = held_in table names walk body [] errors h phase.AttributeValueUnquoted before in
         let v = e.ends table false n.text n.raised n.value in
         cut_attribute n.name (n.sign ++ pieces_text v.pieces) (value_bytes v.pieces) (unquoted_errors v.pieces) (ap (λ (x : List Placed). n.name ++ (n.sign ++ x)) (sym v.text_is) ∙ sym n.held_is)
         (λ end. IsPart.unquoted n.name n.sign v.pieces (record { first = n.has_name.first; runs = record { passes_none = n.has_name.runs; stops_after = sign_stops n.sign n.signed } }) n.signed
         (ap (begins (λ c. not (ends_unquoted c || is_quote c))) (sym v.text_is) ∙ n.first) (record { passes_none = ap (all (λ c. not (ends_unquoted c))) (sym v.text_is) ∙ n.inside; stops_after = refl }) v.are refl)
         n.has_name v.bytes e.more
-        (ap (λ (x : List ParseError). attribute_name_errors n.name ++ x) (sym v.errors_are) ∙ sym (append_assoc (attribute_name_errors n.name) n.raised e.more) ∙ ap (λ (x : List ParseError). x ++ e.more) (sym n.own_is)) e.later_is (past_at_end phase.AttributeValueUnquoted before)
+        (ap (λ (x : List ParseError). attribute_name_errors n.name ++ x) (sym v.errors_are) ∙ sym (append_assoc (attribute_name_errors n.name) n.raised e.more) ∙ ap (λ (x : List ParseError). x ++ e.more) (sym n.own_is)) e.later_is (past_is table names walk body [] errors h phase.AttributeValueUnquoted before)
 
   module _ (after : Texts) (new : TagWalk) (later : List ParseError) (ends : EndsAttribute names after walk errors new later) where
     pub cut_in_attribute_name : walk.phase ≡ phase.AttributeName → IsCutTag table body later
     cut_in_attribute_name before =
-        let n = holds_at_end phase.AttributeName before in
+        let n = held_in table names walk body [] errors h phase.AttributeName before in
         cut_attribute walk (keeps_self walk) refl refl errors after new later ends h.held [] [] [] (append-nil h.held)
         (λ end. IsPart.bare h.held (record { first = n.has_name.first; runs = record { passes_none = n.has_name.runs; stops_after = refl } }) refl refl)
-        n.has_name n.no_value.empty [] (append-nil (attribute_name_errors h.held) ∙ sym n.own_is ∙ sym (append-nil h.own)) (sym (append-nil errors)) (past_at_end phase.AttributeName before)
+        n.has_name n.no_value.empty [] (append-nil (attribute_name_errors h.held) ∙ sym n.own_is ∙ sym (append-nil h.own)) (sym (append-nil errors)) (past_is table names walk body [] errors h phase.AttributeName before)
 
     pub cut_before_value : walk.phase ≡ phase.BeforeAttributeValue → IsCutTag table body later
     cut_before_value before =
-        let n = holds_at_end phase.BeforeAttributeValue before in
+        let n = held_in table names walk body [] errors h phase.BeforeAttributeValue before in
         cut_attribute walk (keeps_self walk) refl refl errors after new later ends n.name n.sign [] [] (sym n.held_is)
         (λ end. IsPart.no_value n.name n.sign (record { first = n.has_name.first; runs = record { passes_none = n.has_name.runs; stops_after = sign_stops n.sign n.is_sign } }) n.is_sign refl refl)
-        n.has_name n.no_value.empty [] (append-nil (attribute_name_errors n.name) ∙ sym n.own_is ∙ sym (append-nil h.own)) (sym (append-nil errors)) (past_at_end phase.BeforeAttributeValue before)
+        n.has_name n.no_value.empty [] (append-nil (attribute_name_errors n.name) ∙ sym n.own_is ∙ sym (append-nil h.own)) (sym (append-nil errors)) (past_is table names walk body [] errors h phase.BeforeAttributeValue before)
 
     pub cut_after_quotes : walk.phase ≡ phase.AfterAttributeValueQuoted → IsCutTag table body later
     cut_after_quotes before =
-        let s = holds_at_end phase.AfterAttributeValueQuoted before in
+        let s = held_in table names walk body [] errors h phase.AfterAttributeValueQuoted before in
         let v = s.value in
         cut_attribute walk (keeps_self walk) refl refl errors after new later ends s.name (s.sign ++ s.quote ++ pieces_text v.pieces ++ s.close) (value_bytes v.pieces) (value_errors v.pieces ++ [])
         (ap (λ (x : List Placed). s.name ++ (s.sign ++ s.quote ++ x ++ s.close)) (sym v.text_is) ∙ sym s.held_is)
         (λ end. IsPart.quoted s.name s.sign s.quote s.close v.pieces s.mark (record { first = s.has_name.first; runs = record { passes_none = s.has_name.runs; stops_after = sign_stops s.sign s.signed } })
         s.signed s.opens s.is_mark (ap (all (λ c. not (eqb c s.mark))) (sym v.text_is) ∙ s.inside) v.are s.closes refl)
         s.has_name v.bytes []
-        (ap (λ (x : List ParseError). attribute_name_errors s.name ++ x) (append-nil (value_errors v.pieces) ∙ sym v.errors_are) ∙ sym s.own_is ∙ sym (append-nil h.own)) (sym (append-nil errors)) (past_at_end phase.AfterAttributeValueQuoted before)
+        (ap (λ (x : List ParseError). attribute_name_errors s.name ++ x) (append-nil (value_errors v.pieces) ∙ sym v.errors_are) ∙ sym s.own_is ∙ sym (append-nil h.own)) (sym (append-nil errors)) (past_is table names walk body [] errors h phase.AfterAttributeValueQuoted before)
 
     -- an attribute's name, and white space after it
     pub cut_after_attribute_name : walk.phase ≡ phase.AfterAttributeName → IsCutTag table body later
     cut_after_attribute_name before =
-        let n = holds_at_end phase.AfterAttributeName before in
+        let n = held_in table names walk body [] errors h phase.AfterAttributeName before in
         let part : Part = attribute_part n.name [] [] [] in
         let all_parts : List Part = (h.parts ++ part ∷ []) ++ spaces n.sign in
         let text : part.text ++ n.sign ≡ h.held = ap (λ (x : List Placed). x ++ n.sign) (append-nil n.name) ∙ sym n.held_is in
         let reference_errors : later ≡ tag_errors h.name (h.parts ++ part ∷ []) =
         part_errors h.name h.parts h.own errors h.errors_are part [] later (append-nil (attribute_name_errors n.name) ∙ sym n.own_is ∙ sym (append-nil h.own))
-        (repeated_here walk (keeps_self walk) refl refl errors after new later ends n.name [] [] [] [] n.has_name n.no_value.empty (sym (append-nil errors))) in
+        ((attribute_told table names walk body [] errors h walk (keeps_self walk) refl refl n.name [] [] [] n.has_name n.no_value.empty errors after new later ends).1 ∙ ap (λ (x : List ParseError). x ++ repeated (names_after [] h.parts) part.attribute) (sym (append-nil errors))) in
         cut_with all_parts later
         (ap (λ (x : List Placed). parts_text h.parts ++ x) (sym text) ∙ sym (append_assoc (parts_text h.parts) part.text n.sign) ∙ ap (λ (x : List Placed). x ++ n.sign) (sym (parts_text-snoc h.parts part))
         ∙ ap (λ (x : List Placed). parts_text (h.parts ++ part ∷ []) ++ x) (sym (spaces_text n.sign)) ∙ sym (parts_text-append (h.parts ++ part ∷ []) (spaces n.sign)))
@@ -158,4 +144,4 @@ module _ (table : Entities) (names : Texts) (walk : TagWalk) (body : List Placed
         (AreParts-snoc table end h.parts part n.sign (subst (AreParts table end h.parts) (append-nil h.held ∙ sym text) (h.are_parts end []))
         (IsPart.bare n.name (record { first = n.has_name.first; runs = record { passes_none = n.has_name.runs; stops_after = begins-stops ends_attribute_name n.sign n.begun } }) (only_spaces n.sign n.is_sign) refl)))
         (are_spaces table end n.sign n.is_sign))
-        (reference_errors ∙ ap (λ (x : List ParseError). null_errors h.name ++ x) (sym (spaces_errors [] (h.parts ++ part ∷ []) n.sign))) (begins-stops ends_name (parts_text h.parts ++ (h.held ++ [])) (past_at_end phase.AfterAttributeName before))
+        (reference_errors ∙ ap (λ (x : List ParseError). null_errors h.name ++ x) (sym (spaces_errors [] (h.parts ++ part ∷ []) n.sign))) (begins-stops ends_name (parts_text h.parts ++ (h.held ++ [])) (past_is table names walk body [] errors h phase.AfterAttributeName before))

@@ -1,5 +1,6 @@
 -- The end of an attribute.
-use Rattle.htag.proofs.Vocabulary.{◌≡◌, ℕ, Bool, true, false, not, ◌||◌, List, [], ◌∷◌, ◌++◌, sym, refl, ap, ◌∙◌, subst, append-nil, Option, Some, is_some, Vec, Global, slice_get, if◌then◌else◌, Attr, Texts, Grows, AreNames, error, TagWalk, AttrsMean, HasSeen, has_number, Attribute, Part, attributes_after, has_attribute, is_known, kept_attribute, repeated, named_by, names_after, NumbersMean, HasAttributes}
+use Rattle.htag.proofs.Vocabulary.{◌≡◌, ℕ, Bool, true, false, not, ◌||◌, List, [], ◌∷◌, ◌++◌, sym, ap, ◌∙◌, subst, append-nil, Option, Some, is_some, Vec, Global, slice_get, if◌then◌else◌, Attr, Texts, Grows, AreNames, error, TagWalk, AttrsMean, HasSeen, has_number, Attribute, Part, attributes_after, has_attribute, is_known, kept_attribute, repeated, named_by, names_after, NumbersMean, HasAttributes}
+use Rattle.std.proofs.Math.Bool.{or-true}
 use Rattle.names.specs.declared.error.ErrorCode.TheVariants.{DuplicateAttribute}
 use Rattle.htag.proofs.Naming.{numbers_kept, attrs_kept, attrs-snoc, known_number}
 use Rattle.htag.proofs.Parts.{names-snoc, attributes-snoc, any-snoc}
@@ -7,10 +8,6 @@ use Rattle.htag.proofs.Parts.{names-snoc, attributes-snoc, any-snoc}
 flip : (a b : Bool) → a ≡ not b → b ≡ not a
 flip a true e = sym (ap not e)
 flip a false e = sym (ap not e)
-
-or-true : (b : Bool) → true ≡ (b || true)
-or-true true = refl
-or-true false = refl
 
 module _ (before after : Texts) (grows : Grows before after) (are : AreNames after) (old new : TagWalk) (a : Attribute) (id : ℕ) (number : slice_get after id ≡ Some a.name) (first : Bool)
     (seen : (numbers : List ℕ) → HasSeen old.seen numbers → (first ≡ not (has_number id numbers)) × HasSeen new.seen (id ∷ numbers)) (any : new.any ≡ true) (parts : List Part) (part : Part) (is : part.attribute ≡ Some a) (h : HasAttributes before old parts) where
@@ -23,7 +20,7 @@ module _ (before after : Texts) (grows : Grows before after) (are : AreNames aft
     seen = (seen h.numbers h.seen).1;
     named = subst (NumbersMean after (id ∷ h.numbers)) (sym (names-snoc [] parts part ∙ ap (λ (o : Option Attribute). named_by o ++ names_after [] parts) is)) (number, numbers_kept before after grows h.numbers (names_after [] parts) h.named);
     attributes = subst (AttrsMean after new.attrs.items) (sym (attributes-snoc [] parts part)) attributes;
-    any = any ∙ or-true (has_attribute parts) ∙ sym (any-snoc parts part ∙ ap (λ (o : Option Attribute). has_attribute parts || is_some o) is);
+    any = any ∙ sym (or-true (has_attribute parts)) ∙ sym (any-snoc parts part ∙ ap (λ (o : Option Attribute). has_attribute parts || is_some o) is);
   }
 
   -- it is the first of its name

@@ -1,8 +1,8 @@
 -- A tag goes on with characters that its phase keeps: with one, or with a run of them.
-use Rattle.htag.proofs.Vocabulary.{◌≡◌, ℕ, Bool, true, false, not, eqb, List, [], ◌∷◌, ◌++◌, drop, sym, refl, ap, ◌∙◌, subst, append_assoc, append-nil, flat_map, string_bytes, flat_map-append, UnexpectedEqualsSignBeforeAttributeName, ParseError, Placed, Texts, begins, all, place, is_equals, error_if, name_bytes, name_bytes-append, Entities, all-append, TagState, TagWalk, IsInValue, AreParts, parts_text, tag_errors, ends_name, ends_attribute_name, ends_unquoted, attribute_name_errors, name_errors_here, NoValue, HasName, HasPhase, IsPast, IsInTag, KeepsTag}
+use Rattle.htag.proofs.Vocabulary.{◌≡◌, ℕ, Bool, true, false, not, eqb, List, [], ◌∷◌, ◌++◌, drop, sym, refl, ap, ◌∙◌, subst, append_assoc, append-nil, flat_map, Some, string_bytes, flat_map-append, UnexpectedEqualsSignBeforeAttributeName, ParseError, Placed, Texts, begins, all, place, is_equals, error_if, name_bytes, name_bytes-append, Entities, all-append, TagState, TagWalk, IsInValue, Part, IsPart, AreParts, parts_text, tag_errors, ends_name, ends_attribute_name, ends_unquoted, attribute_name_errors, name_errors_here, attribute_part, repeated, names_after, NoValue, HasAttributes, HasName, HasPhase, IsPast, IsInTag, KeepsTag, EndsAttribute}
 use Rattle.htag.specs.declared.tag_state.TagState.TheVariants as phase
 use Rattle.htag.proofs.InValue.{looks_ahead}
-use Rattle.htag.proofs.Parts.{begins-more, holds_same}
+use Rattle.htag.proofs.Parts.{begins-more, holds_same, part_errors, parts_text-snoc, AreParts-snoc}
 
 -- the attribute's name stays
 pub name_stays : (walk new : TagWalk) (name : List Placed) → new.attribute ≡ walk.attribute → new.at ≡ walk.at → HasName walk name → HasName new name
@@ -39,6 +39,42 @@ module _ (table : Entities) (names : Texts) (walk : TagWalk) (body fed : List Pl
     past = then _ (ap (λ (x : List Placed). begins ends_name (parts_text h.parts ++ x)) (append-nil (h.held ++ fed)) ∙ gone);
     has_phase = has;
   }
+
+  -- nothing is held of a part
+  pub body_then : h.held ≡ [] → (text : List Placed) → body ++ text ≡ h.name ++ (parts_text h.parts ++ text)
+  body_then none text =
+      ap (λ (x : List Placed). x ++ text) (h.body_is ∙ ap (λ (x : List Placed). h.name ++ (parts_text h.parts ++ x)) none ∙ ap (λ (x : List Placed). h.name ++ x) (append-nil (parts_text h.parts))) ∙ append_assoc h.name (parts_text h.parts) text
+
+  -- A part has been read: what is held and what comes next begin with it, and after it this text is known to come.
+  pub part_read : (part : Part) (front ahead far : List Placed) → front ≡ h.name ++ (parts_text h.parts ++ part.text) → h.held ++ (fed ++ far) ≡ part.text ++ ahead → ((end : ℕ) (more : List Placed) → IsPart table end (ahead ++ more) part) → (after : Texts) (new : TagWalk) (e later : List ParseError)
+      → part.errors ≡ h.own ++ e → later ≡ (errors ++ e) ++ repeated (names_after [] h.parts) part.attribute → new.name ≡ walk.name → new.phase ≡ phase.BeforeAttributeName → HasAttributes after new (h.parts ++ part ∷ []) → Past ≡ true → IsInTag table after new front ahead later
+  part_read part front ahead far front_is text is after new e later own later_is named before has gone = record {
+    name = h.name;
+    parts = h.parts ++ part ∷ [];
+    held = [];
+    own = [];
+    body_is = front_is ∙ ap (λ (x : List Placed). h.name ++ x) (sym (parts_text-snoc h.parts part) ∙ sym (append-nil (parts_text (h.parts ++ part ∷ []))));
+    first = h.first;
+    passes = h.passes;
+    name_is = ap string_bytes named ∙ h.name_is;
+    are_parts = λ end more.
+        AreParts-snoc table end h.parts part (ahead ++ more)
+        (subst (AreParts table end h.parts) (sym (append_assoc h.held (fed ++ far) more ∙ ap (λ (x : List Placed). h.held ++ x) (append_assoc fed far more)) ∙ ap (λ (x : List Placed). x ++ more) text ∙ append_assoc part.text ahead more) (h.are_parts end (far ++ more))) (is end more);
+    errors_are = part_errors h.name h.parts h.own errors h.errors_are part e later own later_is ∙ sym (append-nil (tag_errors h.name (h.parts ++ part ∷ [])));
+    has_attributes = has;
+    past = subst (λ (x : TagState). IsPast x (begins ends_name (parts_text (h.parts ++ part ∷ []) ++ ahead))) (sym before)
+        (ap (λ (x : List Placed). begins ends_name (x ++ ahead)) (parts_text-snoc h.parts part) ∙ ap (begins ends_name) (append_assoc (parts_text h.parts) part.text ahead ∙ ap (λ (x : List Placed). parts_text h.parts ++ x) (sym text ∙ sym (append_assoc h.held fed far)) ∙ sym (append_assoc (parts_text h.parts) (h.held ++ fed) far))
+        ∙ begins-more ends_name (parts_text h.parts ++ (h.held ++ fed)) far gone);
+    has_phase = subst (λ (x : TagState). HasPhase x table new (h.parts ++ part ∷ []) [] []) (sym before) (refl, refl);
+  }
+
+  -- an attribute has been read
+  pub attribute_told : (mid_walk : TagWalk) → KeepsTag walk mid_walk → mid_walk.attribute ≡ walk.attribute → mid_walk.at ≡ walk.at → (name others : List Placed) (value : List ℕ) (e : List ParseError) → HasName walk name → string_bytes mid_walk.value.text ≡ value
+      → (mid : List ParseError) (after : Texts) (new : TagWalk) (later : List ParseError) → EndsAttribute names after mid_walk mid new later
+      → HasAttributes after new (h.parts ++ attribute_part name others value e ∷ []) × (later ≡ mid ++ repeated (names_after [] h.parts) (attribute_part name others value e).attribute)
+  attribute_told mid_walk keeps attribute at name others value e has value_is mid after new later ends =
+      ends.ends h.parts (attribute_part name others value e) (λ i. Some (record { name = (sym has.is ∙ ap string_bytes (sym attribute)) i; value = sym value_is i; at = (has.at_is ∙ sym at) i }))
+      (holds_same names walk mid_walk h.parts keeps.seen_is keeps.attrs_are keeps.any_is h.has_attributes)
 
   -- AN ATTRIBUTE'S NAME
 

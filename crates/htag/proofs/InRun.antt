@@ -1,11 +1,12 @@
 -- A run of clean characters in a tag.
-use Rattle.htag.proofs.Vocabulary.{◌≡◌, ◌<◌, ◌≤◌, ℕ, ◌+◌, Bool, true, false, not, eqb, List, [], ◌∷◌, ◌++◌, length, take, drop, map, sym, refl, ap, ◌∙◌, subst, append_assoc, append-nil, arith, Some, slice_get, length-drop, and_both, and_parts, slice_index, encode_utf8_all, flat_map, list_all, prefix_len, len_utf8, length-take-le, to_ascii_lowercase, string_bytes, nat_tests, ParseError, Placed, Texts, characters, is_equals, name_bytes, null_errors, placed, without_null, is_plain_byte, is_word_byte, all_weaker, all_placed, Entities, TagWalk, IsInTag, WholeOrNot, ends_attribute_name, ends_name, name_errors_here}
+use Rattle.htag.proofs.Vocabulary.{◌≡◌, ◌<◌, ◌≤◌, ℕ, ◌+◌, Bool, true, false, not, eqb, List, [], ◌∷◌, ◌++◌, length, take, drop, map, sym, refl, ap, ◌∙◌, subst, append_assoc, append-nil, arith, Some, slice_get, length-drop, and_both, and_parts, slice_index, encode_utf8_all, flat_map, list_all, prefix_len, len_utf8, length-take-le, to_ascii_lowercase, string_bytes, nat_tests, ParseError, Placed, Texts, is_equals, name_bytes, null_errors, placed, without_null, is_plain_byte, is_word_byte, all_weaker, all_placed, Entities, TagWalk, IsInTag, WholeOrNot, ends_attribute_name, ends_name, name_errors_here}
 use Rattle.std.specs.Char.{is_ascii}
 use Rattle.std.specs.Str.{chars, IsUtf8}
 use Rattle.htext.specs.Run.{IsCut}
 use Rattle.htext.proofs.Runs.{counted, plain_bytes}
-use Rattle.htext.proofs.Wide.{chars_cut, first_char, has_characters, placed_more}
--- under the name by which the crate above cites it
+use Rattle.htext.proofs.Wide.{chars_cut, cut_more, first_char, has_characters, placed_more}
+-- under the names by which the crates above cite them
+pub use Rattle.charref.proofs.AtOnce.{characters-placed as characters_placed}
 pub use Rattle.htext.proofs.Runs.{counted as prefix_all}
 use Rattle.htag.specs.declared.tag_state.TagState.TheVariants as phase
 use Rattle.htag.specs.Run.{next_at, EndsOrNot, PushesWords}
@@ -13,7 +14,7 @@ use Rattle.std.proofs.lemmas.List.{drop-drop, nil_from_length}
 use Rattle.std.proofs.lemmas.Str.{chars-nil, len_utf8_ascii}
 use Rattle.htag.proofs.Ascii.{ascii_chars, ascii_cut, ascii_taken}
 use Rattle.htag.proofs.Keeping.{looks_ahead}
-use Rattle.htag.proofs.Names.{name_grows}
+use Rattle.htag.proofs.Names.{name_grows, no_nulls}
 
 -- a byte that only stands for itself
 module _ (c : ℕ) (h : is_word_byte c ≡ true) where
@@ -41,10 +42,6 @@ module _ (c : ℕ) (h : is_word_byte c ≡ true) where
 pub counted_all : (test : ℕ → Bool) (run : List ℕ) (count : ℕ) → count ≡ prefix_len test run → list_all test (take count run) ≡ true
 counted_all test run count is = ap (λ (n : ℕ). list_all test (take n run)) is ∙ counted test run
 
-pub characters_placed : (at : ℕ) (run : List ℕ) → characters (placed at run) ≡ run
-characters_placed at [] = refl
-characters_placed at (x ∷ xs) = ap (λ (ys : List ℕ). x ∷ ys) (characters_placed (at + len_utf8 x) xs)
-
 -- the bytes of a name that is such a run, and its errors
 pub word_bytes : (at : ℕ) (run : List ℕ) → list_all is_word_byte run ≡ true → name_bytes (placed at run) ≡ run
 word_bytes at run words = ap encode_utf8_all (lowered at run words) ∙ plain_bytes run (all_weaker is_word_byte is_plain_byte word_plain run words) where
@@ -55,11 +52,7 @@ word_bytes at run words = ap encode_utf8_all (lowered at run words) ∙ plain_by
       ap (λ (c : ℕ). c ∷ map (λ (p : Placed). to_ascii_lowercase (without_null p.ch)) (placed (at + len_utf8 x) xs)) (word_lowered x k.0) ∙ ap (λ (cs : List ℕ). x ∷ cs) (lowered (at + len_utf8 x) xs k.1)
 
 pub word_nulls : (at : ℕ) (run : List ℕ) → list_all is_word_byte run ≡ true → null_errors (placed at run) ≡ []
-word_nulls at [] h = refl
-word_nulls at (x ∷ xs) h =
-    let k = and_parts (is_word_byte x) (list_all is_word_byte xs) h in
-    let some : eqb x 0 ≡ false = word_null x k.0 in
-    rw some (word_nulls (at + len_utf8 x) xs k.1)
+word_nulls at run words = no_nulls is_word_byte word_null (placed at run) (all_placed is_word_byte at run words)
 
 pub word_errors : (at : ℕ) (run : List ℕ) → list_all is_word_byte run ≡ true → flat_map name_errors_here (placed at run) ≡ []
 word_errors at [] h = refl
@@ -111,6 +104,21 @@ module _ (at count : ℕ) (run : List ℕ) where
 
   pub text_more : (body : List Placed) (more : ℕ) → IsCut count run → IsCut more (drop count run) → (body ++ placed at (chars (take count run))) ++ placed (at + count) (chars (take more (drop count run))) ≡ body ++ placed at (chars (take (count + more) run))
   text_more body more cut again = append_assoc body (placed at (chars (take count run))) (placed (at + count) (chars (take more (drop count run)))) ∙ ap (λ (x : List Placed). body ++ x) (sym (placed_more count more run cut again at))
+
+-- as where the rest of a run is taken
+module _ (table : Entities) (at count : ℕ) (run rest : List ℕ) (body : List Placed) (rest_is : rest ≡ drop count run) (cut : IsCut count run) where
+  pub cut_in_rest : (more : ℕ) → IsCut more rest → IsCut (count + more) run
+  cut_in_rest more again = cut_more count more run cut (subst (IsCut more) rest_is again)
+
+  pub known_in_rest : (names : Texts) (walk : TagWalk) (errors : List ParseError) → IsInTag table names walk (body ++ placed at (chars (take count run))) (next_at at run count) errors → IsInTag table names walk (body ++ placed at (chars (take count run))) (next_at (at + count) rest 0) errors
+  known_in_rest names walk errors h = subst (λ (x : List Placed). IsInTag table names walk (body ++ placed at (chars (take count run))) x errors) (next_on at count run ∙ ap (λ (x : List ℕ). next_at (at + count) x 0) (sym rest_is)) h
+
+  pub taken_in_rest : (names : Texts) (walk : TagWalk) (errors : List ParseError) (more : ℕ) → IsCut more rest → (ended : Bool) → EndsOrNot ended table names walk ((body ++ placed at (chars (take count run))) ++ placed (at + count) (chars (take more rest))) (next_at (at + count) rest more) errors
+      → EndsOrNot ended table names walk (body ++ placed at (chars (take (count + more) run))) (next_at at run (count + more)) errors
+  taken_in_rest names walk errors more again ended h =
+      subst (λ (x : List Placed). EndsOrNot ended table names walk x (next_at at run (count + more)) errors) (text_more at count run body more cut (subst (IsCut more) rest_is again))
+      (subst (λ (x : List Placed). EndsOrNot ended table names walk ((body ++ placed at (chars (take count run))) ++ placed (at + count) (chars (take more (drop count run)))) x errors) (next_more at count run more)
+      (subst (λ (x : List ℕ). EndsOrNot ended table names walk ((body ++ placed at (chars (take count run))) ++ placed (at + count) (chars (take more x))) (next_at (at + count) x more) errors) rest_is h))
 
 -- the first character of a run
 pub begins_with : (cs : List ℕ) (c : ℕ) → slice_get cs 0 ≡ Some c → (rest : List ℕ) × (cs ≡ c ∷ rest)

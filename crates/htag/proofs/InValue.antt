@@ -1,8 +1,8 @@
 -- A value, a character at a time.
-use Rattle.htag.proofs.Vocabulary.{◌≡◌, ℕ, zero, suc, ◌+◌, ◌-◌, ◌≤◌, Bool, true, false, true≢false, ◌&&◌, eqb, List, [], ◌∷◌, ◌++◌, length, take, drop, sym, refl, ap, ◌∙◌, subst, append-nil, append_assoc, arith, Vec, Global, encode_utf8_all, encode_utf8, string_bytes, take-append-drop, encodes-append, UnknownNamedCharacterReference, ParseError, Placed, characters, begins, all, past, is_alphanumeric, error_if, and_parts, and_both, Reference, IsRead, characters_of, errors_of, Entities, Piece, IsReference, IsTable, ampersand, all-append, Pending, ValueWalk, IsValuePiece, AreValue, pieces_text, value_bytes, BeginsPiece, HasHeld, IsInValue, pieces_errors, plain_pieces, reference_errors, nat_tests}
+use Rattle.htag.proofs.Vocabulary.{◌≡◌, ℕ, zero, suc, ◌+◌, ◌-◌, ◌≤◌, Bool, true, false, true≢false, ◌&&◌, eqb, List, [], ◌∷◌, ◌++◌, length, take, drop, sym, refl, ap, ◌∙◌, subst, append-nil, append_assoc, arith, Vec, Global, encode_utf8_all, encode_utf8, string_bytes, take-append-drop, take_all, encodes-append, UnknownNamedCharacterReference, ParseError, Placed, characters, begins, all, past, is_alphanumeric, error_if, and_parts, and_both, Reference, IsRead, characters_of, errors_of, Entities, Piece, IsReference, IsTable, ampersand, all-append, Pending, ValueWalk, IsValuePiece, AreValue, pieces_text, value_bytes, BeginsPiece, HasHeld, IsInValue, pieces_errors, plain_pieces, reference_errors, nat_tests}
 use Rattle.std.proofs.lemmas.Bool.{and_right}
 use Rattle.std.proofs.Common.{length-append}
-use Rattle.std.proofs.lemmas.List.{take-append-le, drop-append-le}
+use Rattle.std.proofs.lemmas.List.{take-append-le, drop-append-le, drop-map, drop_all, length-map, map-append}
 use Rattle.charref.specs.declared.walk.Walk.{Walk}
 use Rattle.charref.specs.declared.reference_state.ReferenceState.{ReferenceState as WalkState}
 use Rattle.charref.specs.Held.{is_number, held_characters}
@@ -13,7 +13,7 @@ use Rattle.htag.specs.declared.pending.Pending.TheVariants as reading
 use Rattle.htag.specs.ValueWalk.{InReference, InAmbiguousAmpersand, IsWholeValue, TellsReference}
 use Rattle.htag.proofs.Pieces.{pieces_text-append, pieces_text-one, value_bytes-append, value_bytes-one, pieces_errors-append, is_even, errors-even, is_quiet, quiet_run, quiet_plain, plain_text, plain_bytes, plain_errors, begins_alone, begins_further, begins_piece, begins_plain}
 use Rattle.htag.proofs.Even.{quiet_held, reference_even, alone_even}
-use Rattle.htag.proofs.Running.{IsRunRead, characters-append, run_read}
+use Rattle.htag.proofs.Running.{run_gives, run_letters, run_quiet, run_unknown}
 
 pub looks_ahead : (table : Entities) (quoted : Bool) (walk : ValueWalk) (text next : List Placed) (errors : List ParseError) → IsInValue table quoted walk text [] errors → IsInValue table quoted walk text next errors
 looks_ahead table quoted walk text next errors h = record {
@@ -24,15 +24,6 @@ looks_ahead table quoted walk text next errors h = record {
   errors_are = h.errors_are;
   has_held = h.has_held;
 }
-
-drop-map : (n : ℕ) (text : List Placed) → drop n (characters text) ≡ characters (drop n text)
-drop-map zero text = refl
-drop-map (suc n) [] = refl
-drop-map (suc n) (p ∷ ps) = drop-map n ps
-
-length-characters : (text : List Placed) → length (characters text) ≡ length text
-length-characters [] = refl
-length-characters (p ∷ ps) = ap suc (length-characters ps)
 
 quiet_drop : (n : ℕ) (text : List Placed) → all is_quiet text ≡ true → all is_quiet (drop n text) ≡ true
 quiet_drop zero text h = h
@@ -48,7 +39,13 @@ pub other_kept : (old next : WalkState) (taken : List Placed) (p : Placed) (held
     → held ≡ characters (held_characters old taken) → held ++ p.ch ∷ [] ≡ characters (held_characters next (taken ++ p ∷ []))
 other_kept old next taken p held leads other e =
     ap (λ (x : List ℕ). x ++ p.ch ∷ []) (e ∙ ap characters (kept_all old taken (is_other old (λ number. true≢false (sym (leads number) ∙ other)))))
-    ∙ sym (characters-append taken (p ∷ [])) ∙ ap characters (sym (kept_all next (taken ++ p ∷ []) other))
+    ∙ sym (map-append (λ (q : Placed). q.ch) taken (p ∷ [])) ∙ ap characters (sym (kept_all next (taken ++ p ∷ []) other))
+
+-- a character more, written after others
+one_more_encoded : (front cs : List ℕ) (c : ℕ) → (front ++ encode_utf8_all cs) ++ encode_utf8 c ≡ front ++ encode_utf8_all (cs ++ c ∷ [])
+one_more_encoded front cs c =
+    append_assoc front (encode_utf8_all cs) (encode_utf8 c)
+    ∙ ap (λ (x : List ℕ). front ++ x) (ap (λ (x : List ℕ). encode_utf8_all cs ++ x) (sym (append-nil (encode_utf8 c))) ∙ sym (encodes-append cs (c ∷ [])))
 
 -- A PIECE IS KNOWN, AND CHARACTERS AFTER IT
 
@@ -135,32 +132,33 @@ module _ (table : Entities) (quoted : Bool) (old new : ValueWalk) (p : Placed) (
   held_in : (r : Pending) → old.reading ≡ r → HasHeld r table old h.pieces h.held
   held_in r e = subst (λ (x : Pending). HasHeld x table old h.pieces h.held) e h.has_held
 
-  -- an `&`, where nothing is held
-  pub amp_step : (nothing : old.reading ≡ reading.Nothing) (w : Walk) → new.reading ≡ reading.Reference w → p.ch ≡ 38 → IsTable table → WalkHasTaken w table true [] → new.at ≡ p.at → new.held.items ≡ [] → new.text ≡ old.text → IsInValue table quoted new (text ++ p ∷ []) [] (own ++ [])
-  amp_step nothing w next is is_table taken place empty same = record {
-    pieces = h.pieces;
-    held = p ∷ [];
-    text_is = text_so_far table quoted old text (p ∷ []) own h nothing;
-    begins_value = begins_here table quoted old text (p ∷ []) own h nothing;
-    errors_are = append-nil own ∙ h.errors_are;
-    has_held = subst (λ (x : Pending). HasHeld x table new h.pieces (p ∷ [])) (sym next) (record {
-      amp = p;
-      taken = [];
-      held_is = refl;
-      is_amp = is;
-      is_table = is_table;
-      has_taken = taken;
-      at_is = place;
-      kept_is = empty ∙ ap characters (sym (kept_nothing w.state));
-      bytes = ap string_bytes same ∙ (held_in reading.Nothing nothing).1;
-    });
-  }
-
   text_more : text ++ p ∷ [] ≡ pieces_text h.pieces ++ (h.held ++ p ∷ [])
   text_more = ap (λ (x : List Placed). x ++ p ∷ []) h.text_is ∙ append_assoc (pieces_text h.pieces) h.held (p ∷ [])
 
-  begins_more : BeginsPiece table h.pieces ((h.held ++ p ∷ []) ++ [])
-  begins_more = subst (BeginsPiece table h.pieces) (sym (append-nil (h.held ++ p ∷ []))) h.begins_value
+  -- it is held too
+  held_more : (r : Pending) → new.reading ≡ r → (e : List ParseError) → e ≡ [] → HasHeld r table new h.pieces (h.held ++ p ∷ []) → IsInValue table quoted new (text ++ p ∷ []) [] (own ++ e)
+  held_more r next e none has = record {
+    pieces = h.pieces;
+    held = h.held ++ p ∷ [];
+    text_is = text_more;
+    begins_value = subst (BeginsPiece table h.pieces) (sym (append-nil (h.held ++ p ∷ []))) h.begins_value;
+    errors_are = ap (λ (x : List ParseError). own ++ x) none ∙ append-nil own ∙ h.errors_are;
+    has_held = subst (λ (x : Pending). HasHeld x table new h.pieces (h.held ++ p ∷ [])) (sym next) has;
+  }
+
+  -- an `&`, where nothing is held
+  pub amp_step : (nothing : old.reading ≡ reading.Nothing) (w : Walk) → new.reading ≡ reading.Reference w → p.ch ≡ 38 → IsTable table → WalkHasTaken w table true [] → new.at ≡ p.at → new.held.items ≡ [] → new.text ≡ old.text → IsInValue table quoted new (text ++ p ∷ []) [] (own ++ [])
+  amp_step nothing w next is is_table taken place empty same = held_more (reading.Reference w) next [] refl (record {
+    amp = p;
+    taken = [];
+    held_is = ap (λ (x : List Placed). x ++ p ∷ []) (held_in reading.Nothing nothing).0;
+    is_amp = is;
+    is_table = is_table;
+    has_taken = taken;
+    at_is = place;
+    kept_is = empty ∙ ap characters (sym (kept_nothing w.state));
+    bytes = ap string_bytes same ∙ (held_in reading.Nothing nothing).1;
+  })
 
   -- where a reference is being read
   module _ (w : Walk) (before : old.reading ≡ reading.Reference w) where
@@ -170,24 +168,17 @@ module _ (table : Entities) (quoted : Bool) (old new : ValueWalk) (p : Placed) (
     pub reference_on : (w' : Walk) → new.reading ≡ reading.Reference w' → ((taken : List Placed) → WalkHasTaken w table true taken → WalkHasTaken w' table true (taken ++ p ∷ [])) → ((taken : List Placed) → old.held.items ≡ characters (held_characters w.state taken) → new.held.items ≡ characters (held_characters w'.state (taken ++ p ∷ []))) → new.at ≡ old.at → new.text ≡ old.text
         → IsInValue table quoted new (text ++ p ∷ []) [] (own ++ [])
     reference_on w' next takes keeps place same =
-        let r = held_here in record {
-          pieces = h.pieces;
-          held = h.held ++ p ∷ [];
-          text_is = text_more;
-          begins_value = begins_more;
-          errors_are = append-nil own ∙ h.errors_are;
-          has_held = subst (λ (x : Pending). HasHeld x table new h.pieces (h.held ++ p ∷ [])) (sym next) (record {
-            amp = r.amp;
-            taken = r.taken ++ p ∷ [];
-            held_is = ap (λ (x : List Placed). x ++ p ∷ []) r.held_is;
-            is_amp = r.is_amp;
-            is_table = r.is_table;
-            has_taken = takes r.taken r.has_taken;
-            at_is = place ∙ r.at_is;
-            kept_is = keeps r.taken r.kept_is;
-            bytes = ap string_bytes same ∙ r.bytes;
-          });
-        }
+        let r = held_here in held_more (reading.Reference w') next [] refl (record {
+          amp = r.amp;
+          taken = r.taken ++ p ∷ [];
+          held_is = ap (λ (x : List Placed). x ++ p ∷ []) r.held_is;
+          is_amp = r.is_amp;
+          is_table = r.is_table;
+          has_taken = takes r.taken r.has_taken;
+          at_is = place ∙ r.at_is;
+          kept_is = keeps r.taken r.kept_is;
+          bytes = ap string_bytes same ∙ r.bytes;
+        })
 
     module _ (found : Reference) (read : (taken : List Placed) → WalkHasTaken w table true taken → (after : List Placed) → IsRead table true (taken ++ p ∷ []) after found) (number : is_number w.state ≡ true → LeavesLast found) where
       abbrev all_taken : List Placed
@@ -220,8 +211,8 @@ module _ (table : Entities) (quoted : Bool) (old new : ValueWalk) (p : Placed) (
         -- it ends with the character
         pub reference_ends : found.left ≡ 0 → new.reading ≡ reading.Nothing → string_bytes new.text ≡ string_bytes old.text ++ encode_utf8_all (characters_of found.characters) → IsInValue table quoted new (text ++ p ∷ []) [] (own ++ reference_errors found old.at)
         reference_ends none nothing bytes =
-            let whole : take (length all_taken - found.left) all_taken ≡ all_taken = ap (λ (n : ℕ). take (length all_taken - n) all_taken) none ∙ take_whole all_taken in
-            let nothing_left : drop (length all_taken - found.left) all_taken ≡ [] = ap (λ (n : ℕ). drop (length all_taken - n) all_taken) none ∙ drop_whole all_taken in
+            let whole : take (length all_taken - found.left) all_taken ≡ all_taken = ap (λ (n : ℕ). take (length all_taken - n) all_taken) none ∙ take_all (length all_taken - 0) all_taken (omega arith) in
+            let nothing_left : drop (length all_taken - found.left) all_taken ≡ [] = ap (λ (n : ℕ). drop (length all_taken - n) all_taken) none ∙ drop_all (length all_taken - 0) all_taken (omega arith) in
             let is : (rest : List Placed) → IsReference table true ([] ++ rest) (piece_of all_taken) = is_piece all_taken [] whole nothing_left in
             let held_more : h.held ++ p ∷ [] ≡ held_here.amp ∷ all_taken = ap (λ (x : List Placed). x ++ p ∷ []) held_here.held_is in
             subst (IsInValue table quoted new (text ++ p ∷ []) []) told_here
@@ -229,18 +220,6 @@ module _ (table : Entities) (quoted : Bool) (old new : ValueWalk) (p : Placed) (
             (bytes ∙ ap (λ (x : List ℕ). x ++ encode_utf8_all (characters_of found.characters)) held_here.bytes ∙ ap (λ (x : List ℕ). value_bytes h.pieces ++ x) (sym (append-nil (encode_utf8_all (characters_of found.characters)))))
             (text_more ∙ ap (λ (x : List Placed). pieces_text h.pieces ++ x) (held_more ∙ sym (append-nil (held_here.amp ∷ all_taken)))) h.errors_are []
             (subst (BeginsPiece table h.pieces) (held_more ∙ sym (append-nil (held_here.amp ∷ all_taken))) h.begins_value) (λ rest. IsValuePiece.reference (is rest)) nothing)
-          where
-            take_whole : (xs : List Placed) → take (length xs - 0) xs ≡ xs
-            take_whole xs = (let e : length xs - 0 ≡ length xs = omega arith in ap (λ (n : ℕ). take n xs) e) ∙ go xs where
-              go : (ys : List Placed) → take (length ys) ys ≡ ys
-              go [] = refl
-              go (y ∷ ys) = ap (λ (x : List Placed). y ∷ x) (go ys)
-
-            drop_whole : (xs : List Placed) → drop (length xs - 0) xs ≡ []
-            drop_whole xs = (let e : length xs - 0 ≡ length xs = omega arith in ap (λ (n : ℕ). drop n xs) e) ∙ go xs where
-              go : (ys : List Placed) → drop (length ys) ys ≡ []
-              go [] = refl
-              go (y ∷ ys) = go ys
 
         -- it ends before it
         pub reference_read : 1 ≤ found.left → new.reading ≡ reading.Nothing
@@ -255,9 +234,9 @@ module _ (table : Entities) (quoted : Bool) (old new : ValueWalk) (p : Placed) (
             let is : (rest : List Placed) → IsReference table true ((back ++ p ∷ []) ++ rest) (piece_of front) = is_piece front (back ++ p ∷ []) (take-append-le k taken (p ∷ []) within) (drop-append-le k taken (p ∷ []) within) in
             let quiet : all is_quiet back ≡ true = quiet_drop k taken quiet_taken in
             let kept_here : List Placed = held_characters w.state taken in
-            let same : length old.held.items - (found.left - 1) ≡ length kept_here + 1 - found.left = (let e : length old.held.items ≡ length kept_here = ap length held_here.kept_is ∙ length-characters kept_here in omega (arith, e, some)) in
+            let same : length old.held.items - (found.left - 1) ≡ length kept_here + 1 - found.left = (let e : length old.held.items ≡ length kept_here = ap length held_here.kept_is ∙ length-map kept_here (λ (q : Placed). q.ch) in omega (arith, e, some)) in
             let given : drop (length old.held.items - (found.left - 1)) old.held.items ≡ characters back =
-            ap (λ (n : ℕ). drop n old.held.items) same ∙ ap (drop (length kept_here + 1 - found.left)) held_here.kept_is ∙ drop-map (length kept_here + 1 - found.left) kept_here
+            ap (λ (n : ℕ). drop n old.held.items) same ∙ ap (drop (length kept_here + 1 - found.left)) held_here.kept_is ∙ drop-map (λ (q : Placed). q.ch) (length kept_here + 1 - found.left) kept_here
             ∙ ap characters (drop-kept w.state taken found.left (λ n. (number n).1) ∙ ap (λ (n : ℕ). drop (n - found.left) taken) (sym one_more)) in
             let joined : h.held ≡ (held_here.amp ∷ front) ++ back = held_here.held_is ∙ ap (λ (x : List Placed). held_here.amp ∷ x) (sym (take-append-drop k taken)) in
             subst (IsInValue table quoted new text (p ∷ [])) told_here
@@ -273,50 +252,21 @@ module _ (table : Entities) (quoted : Bool) (old new : ValueWalk) (p : Placed) (
           → IsInValue table quoted new (text ++ p ∷ []) [] (own ++ reference_errors found old.at)
       run_begins is_ambiguous next place bytes =
           let taken : List Placed = held_here.taken in
-          let long : 1 ≤ length all_taken = omega (arith, one_more) in
           let reads : (after : List Placed) → IsRead table true all_taken after found = read taken held_here.has_taken in
-          let r : IsRunRead all_taken found = run_read table all_taken found long reads is_ambiguous in
-          let nothing_off : length all_taken - found.left ≡ 0 = omega (arith, r.left_is) in
-          record {
-            pieces = h.pieces;
-            held = h.held ++ p ∷ [];
-            text_is = text_more;
-            begins_value = begins_more;
-            errors_are = ap (λ (x : List ParseError). own ++ x) (untold found old.at r.nothing) ∙ append-nil own ∙ h.errors_are;
-            has_held = subst (λ (x : Pending). HasHeld x table new h.pieces (h.held ++ p ∷ [])) (sym next) (record {
-              amp = held_here.amp;
-              run = all_taken;
-              held_is = ap (λ (x : List Placed). x ++ p ∷ []) held_here.held_is;
-              is_amp = held_here.is_amp;
-              is_run = r.letters;
-              unknown = λ after. unknown_here r nothing_off after;
-              at_is = place ∙ held_here.at_is;
-              bytes = bytes ∙ ap (λ (x : List ℕ). ((x ++ encode_utf8_all (characters_of found.characters)) ++ encode_utf8_all old.held.items) ++ encode_utf8 p.ch) held_here.bytes
-                  ∙ ap (λ (x : List ℕ). ((value_bytes h.pieces ++ encode_utf8_all x) ++ encode_utf8_all old.held.items) ++ encode_utf8 p.ch) r.gives
-                  ∙ ap (λ (x : List ℕ). ((value_bytes h.pieces ++ encode_utf8_all (38 ∷ [])) ++ encode_utf8_all x) ++ encode_utf8 p.ch) (held_here.kept_is ∙ ap characters (kept_all w.state taken (is_other w.state (λ n. true≢false (sym is_ambiguous ∙ (number n).0)))))
-                  ∙ in_order (value_bytes h.pieces) (characters taken) p.ch ∙ ap (λ (x : List ℕ). value_bytes h.pieces ++ encode_utf8_all (38 ∷ x)) (sym (characters-append taken (p ∷ [])));
-            });
-          }
-        where
-          untold : (f : Reference) (at : ℕ) → reference_errors f 0 ≡ [] → reference_errors f at ≡ []
-          untold f at e = grind (arith, nat_tests)
-
-          in_order : (front cs : List ℕ) (c : ℕ) → ((front ++ encode_utf8_all (38 ∷ [])) ++ encode_utf8_all cs) ++ encode_utf8 c ≡ front ++ encode_utf8_all (38 ∷ (cs ++ c ∷ []))
-          in_order front cs c =
-              append_assoc (front ++ encode_utf8_all (38 ∷ [])) (encode_utf8_all cs) (encode_utf8 c) ∙ append_assoc front (encode_utf8_all (38 ∷ [])) (encode_utf8_all cs ++ encode_utf8 c)
-              ∙ ap (λ (x : List ℕ). front ++ x) (ap (λ (x : List ℕ). encode_utf8_all (38 ∷ []) ++ (encode_utf8_all cs ++ x)) (sym (append-nil (encode_utf8 c)))
-              ∙ ap (λ (x : List ℕ). encode_utf8_all (38 ∷ []) ++ x) (sym (encodes-append cs (c ∷ []))) ∙ sym (encodes-append (38 ∷ []) (cs ++ c ∷ [])))
-
-          unknown_here : IsRunRead all_taken found → length all_taken - found.left ≡ 0 → (after : List Placed) → IsReference table true (all_taken ++ after) (ampersand held_here.amp (error_if (begins (λ c. eqb c 59) (past is_alphanumeric after)) UnknownNamedCharacterReference held_here.amp.at))
-          unknown_here r off after =
-              let at : ℕ = held_here.amp.at in
-              let late : List ParseError = error_if (begins (λ c. eqb c 59) (past is_alphanumeric after)) UnknownNamedCharacterReference at in
-              let errors : errors_of found at after ≡ late =
-              ap (λ (b : Bool). reference_errors found at ++ error_if (b && begins (λ c. eqb c 59) (past is_alphanumeric after)) UnknownNamedCharacterReference at) is_ambiguous ∙ ap (λ (x : List ParseError). x ++ late) (untold found at r.nothing) in
-              subst (λ (x : List ParseError). IsReference table true (all_taken ++ after) (record { text = held_here.amp ∷ []; gives = 38 ∷ []; errors = x })) errors
-              (subst (λ (x : List ℕ). IsReference table true (all_taken ++ after) (record { text = held_here.amp ∷ []; gives = x; errors = errors_of found at after })) r.gives
-              (subst (λ (n : ℕ). IsReference table true (drop n all_taken ++ after) (record { text = held_here.amp ∷ take n all_taken; gives = characters_of found.characters; errors = errors_of found at after })) off
-              ((read held_here.taken held_here.has_taken after).reads held_here.amp held_here.is_amp)))
+          held_more reading.AmbiguousAmpersand next (reference_errors found old.at) (ap (reference_errors found) held_here.at_is ∙ run_quiet table held_here.amp held_here.is_amp all_taken found reads is_ambiguous) (record {
+            amp = held_here.amp;
+            run = all_taken;
+            held_is = ap (λ (x : List Placed). x ++ p ∷ []) held_here.held_is;
+            is_amp = held_here.is_amp;
+            is_run = run_letters table held_here.amp held_here.is_amp all_taken found reads is_ambiguous;
+            unknown = run_unknown table held_here.amp held_here.is_amp all_taken found reads is_ambiguous;
+            at_is = place ∙ held_here.at_is;
+            bytes = bytes ∙ ap (λ (x : List ℕ). ((x ++ encode_utf8_all (characters_of found.characters)) ++ encode_utf8_all old.held.items) ++ encode_utf8 p.ch) held_here.bytes
+                ∙ ap (λ (x : List ℕ). ((value_bytes h.pieces ++ encode_utf8_all x) ++ encode_utf8_all old.held.items) ++ encode_utf8 p.ch) (run_gives table held_here.amp held_here.is_amp all_taken found reads is_ambiguous)
+                ∙ ap (λ (x : List ℕ). ((value_bytes h.pieces ++ encode_utf8_all (38 ∷ [])) ++ encode_utf8_all x) ++ encode_utf8 p.ch) (held_here.kept_is ∙ ap characters (kept_all w.state taken (is_other w.state (λ n. true≢false (sym is_ambiguous ∙ (number n).0)))))
+                ∙ ap (λ (x : List ℕ). x ++ encode_utf8 p.ch) (append_assoc (value_bytes h.pieces) (encode_utf8_all (38 ∷ [])) (encode_utf8_all (characters taken)) ∙ ap (λ (x : List ℕ). value_bytes h.pieces ++ x) (sym (encodes-append (38 ∷ []) (characters taken))))
+                ∙ one_more_encoded (value_bytes h.pieces) (38 ∷ characters taken) p.ch ∙ ap (λ (x : List ℕ). value_bytes h.pieces ++ encode_utf8_all (38 ∷ x)) (sym (map-append (λ (q : Placed). q.ch) taken (p ∷ [])));
+          })
 
   -- in a run
   module _ (before : old.reading ≡ reading.AmbiguousAmpersand) where
@@ -325,34 +275,22 @@ module _ (table : Entities) (quoted : Bool) (old new : ValueWalk) (p : Placed) (
 
     pub run_on : new.reading ≡ old.reading → new.at ≡ old.at → string_bytes new.text ≡ string_bytes old.text ++ encode_utf8 p.ch → is_alphanumeric p.ch ≡ true → IsInValue table quoted new (text ++ p ∷ []) [] (own ++ [])
     run_on same place bytes letter =
-        let r = run_here in record {
-          pieces = h.pieces;
-          held = h.held ++ p ∷ [];
-          text_is = text_more;
-          begins_value = begins_more;
-          errors_are = append-nil own ∙ h.errors_are;
-          has_held = subst (λ (x : Pending). HasHeld x table new h.pieces (h.held ++ p ∷ [])) (sym (same ∙ before)) (record {
-            amp = r.amp;
-            run = r.run ++ p ∷ [];
-            held_is = ap (λ (x : List Placed). x ++ p ∷ []) r.held_is;
-            is_amp = r.is_amp;
-            is_run = all-append is_alphanumeric r.run (p ∷ []) r.is_run (and_both (is_alphanumeric p.ch) true letter refl);
-            unknown = λ after.
-                subst (λ (x : List Placed). IsReference table true x (ampersand r.amp (error_if (begins (λ c. eqb c 59) (past is_alphanumeric after)) UnknownNamedCharacterReference r.amp.at))) (sym (append_assoc r.run (p ∷ []) after))
-                (subst (λ (x : List Placed). IsReference table true (r.run ++ (p ∷ after)) (ampersand r.amp (error_if (begins (λ c. eqb c 59) x) UnknownNamedCharacterReference r.amp.at))) (past_letter after) (r.unknown (p ∷ after)));
-            at_is = place ∙ r.at_is;
-            bytes = bytes ∙ ap (λ (x : List ℕ). x ++ encode_utf8 p.ch) r.bytes ∙ in_order (value_bytes h.pieces) (38 ∷ characters r.run) p.ch
-                ∙ ap (λ (x : List ℕ). value_bytes h.pieces ++ encode_utf8_all (38 ∷ x)) (sym (characters-append r.run (p ∷ [])));
-          });
-        }
+        let r = run_here in held_more reading.AmbiguousAmpersand (same ∙ before) [] refl (record {
+          amp = r.amp;
+          run = r.run ++ p ∷ [];
+          held_is = ap (λ (x : List Placed). x ++ p ∷ []) r.held_is;
+          is_amp = r.is_amp;
+          is_run = all-append is_alphanumeric r.run (p ∷ []) r.is_run (and_both (is_alphanumeric p.ch) true letter refl);
+          unknown = λ after.
+              subst (λ (x : List Placed). IsReference table true x (ampersand r.amp (error_if (begins (λ c. eqb c 59) (past is_alphanumeric after)) UnknownNamedCharacterReference r.amp.at))) (sym (append_assoc r.run (p ∷ []) after))
+              (subst (λ (x : List Placed). IsReference table true (r.run ++ (p ∷ after)) (ampersand r.amp (error_if (begins (λ c. eqb c 59) x) UnknownNamedCharacterReference r.amp.at))) (past_letter after) (r.unknown (p ∷ after)));
+          at_is = place ∙ r.at_is;
+          bytes = bytes ∙ ap (λ (x : List ℕ). x ++ encode_utf8 p.ch) r.bytes ∙ one_more_encoded (value_bytes h.pieces) (38 ∷ characters r.run) p.ch
+              ∙ ap (λ (x : List ℕ). value_bytes h.pieces ++ encode_utf8_all (38 ∷ x)) (sym (map-append (λ (q : Placed). q.ch) r.run (p ∷ [])));
+        })
       where
         past_letter : (after : List Placed) → past is_alphanumeric (p ∷ after) ≡ past is_alphanumeric after
         past_letter after = rw letter refl
-
-        in_order : (front cs : List ℕ) (c : ℕ) → (front ++ encode_utf8_all cs) ++ encode_utf8 c ≡ front ++ encode_utf8_all (cs ++ c ∷ [])
-        in_order front cs c =
-            append_assoc front (encode_utf8_all cs) (encode_utf8 c)
-            ∙ ap (λ (x : List ℕ). front ++ x) (ap (λ (x : List ℕ). encode_utf8_all cs ++ x) (sym (append-nil (encode_utf8 c))) ∙ sym (encodes-append cs (c ∷ [])))
 
     pub run_ends : new.reading ≡ reading.Nothing → string_bytes new.text ≡ string_bytes old.text → is_alphanumeric p.ch ≡ false → IsInValue table quoted new text (p ∷ []) (own ++ error_if (eqb p.ch 59) UnknownNamedCharacterReference old.at)
     run_ends nothing bytes other =
@@ -411,7 +349,7 @@ module _ (table : Entities) (quoted : Bool) (old new : ValueWalk) (text : List P
         let quiet : all is_quiet back ≡ true = quiet_drop k r.taken (quiet_held table true w.state r.taken r.has_taken.held) in
         let kept_here : List Placed = held_characters w.state r.taken in
         let given : drop (length old.held.items - found.left) old.held.items ≡ characters back =
-        ap (λ (x : List ℕ). drop (length x - found.left) x) r.kept_is ∙ ap (λ (n : ℕ). drop (n - found.left) (characters kept_here)) (length-characters kept_here) ∙ drop-map (length kept_here - found.left) kept_here
+        ap (λ (x : List ℕ). drop (length x - found.left) x) r.kept_is ∙ ap (λ (n : ℕ). drop (n - found.left) (characters kept_here)) (length-map kept_here (λ (q : Placed). q.ch)) ∙ drop-map (λ (q : Placed). q.ch) (length kept_here - found.left) kept_here
         ∙ ap characters (drop-kept-end w.state r.taken found.left number) in
         let joined : h.held ≡ (r.amp ∷ front) ++ back = r.held_is ∙ ap (λ (x : List Placed). r.amp ∷ x) (sym (take-append-drop k r.taken)) in
         subst (λ (x : ℕ). IsWholeValue table quoted new text (own ++ reference_errors found x)) (sym r.at_is)

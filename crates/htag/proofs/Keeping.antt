@@ -1,5 +1,5 @@
 -- What a walk has read stays read: where more is known of what follows, and where names are added.
-use Rattle.htag.proofs.Vocabulary.{◌≡◌, Bool, true, List, [], ◌++◌, sym, ap, ◌∙◌, subst, append_assoc, ParseError, Placed, Texts, Grows, begins, Entities, TagState, TagWalk, Part, AreParts, parts_text, attributes_after, ends_name, names_after, string_bytes, HasAttributes, HasPhase, IsPast, IsInTag}
+use Rattle.htag.proofs.Vocabulary.{◌≡◌, ℕ, Bool, true, List, [], ◌++◌, sym, refl, ap, ◌∙◌, subst, append_assoc, ParseError, Placed, Texts, Grows, begins, Entities, TagState, TagWalk, Part, AreParts, parts_text, attributes_after, ends_name, names_after, string_bytes, HasAttributes, HasPhase, IsPast, IsInTag}
 use Rattle.htag.specs.declared.tag_state.TagState.TheVariants as phase
 use Rattle.htag.proofs.Parts.{begins-more, holds_same}
 use Rattle.htag.proofs.Naming.{numbers_kept, attrs_kept}
@@ -15,8 +15,10 @@ past_more (phase.AttributeValueQuoted mark) a b f h = f h
 past_more phase.AttributeValueUnquoted a b f h = f h
 past_more phase.AfterAttributeValueQuoted a b f h = f h
 
-pub looks_further : (table : Entities) (names : Texts) (walk : TagWalk) (body ahead : List Placed) (errors : List ParseError) → IsInTag table names walk body ahead errors → (more : List Placed) → IsInTag table names walk body (ahead ++ more) errors
-looks_further table names walk body ahead errors h more = record {
+-- all that was read stays, for a walk that has it too
+stays : (table : Entities) (names names' : Texts) (walk new : TagWalk) (body ahead ahead' : List Placed) (errors : List ParseError) → (h : IsInTag table names walk body ahead errors) → new.name ≡ walk.name → ((end : ℕ) (more : List Placed) → AreParts table end h.parts (h.held ++ (ahead' ++ more)))
+    → HasAttributes names' new h.parts → IsPast new.phase (begins ends_name (parts_text h.parts ++ (h.held ++ ahead'))) → HasPhase new.phase table new h.parts h.held h.own → IsInTag table names' new body ahead' errors
+stays table names names' walk new body ahead ahead' errors h named are has past phased = record {
   name = h.name;
   parts = h.parts;
   held = h.held;
@@ -24,17 +26,23 @@ looks_further table names walk body ahead errors h more = record {
   body_is = h.body_is;
   first = h.first;
   passes = h.passes;
-  name_is = h.name_is;
-  are_parts = λ end others. subst (λ (x : List Placed). AreParts table end h.parts (h.held ++ x)) (sym (append_assoc ahead more others)) (h.are_parts end (more ++ others));
+  name_is = ap string_bytes named ∙ h.name_is;
+  are_parts = are;
   errors_are = h.errors_are;
-  has_attributes = h.has_attributes;
-  past = past_more walk.phase _ _ further h.past;
-  has_phase = h.has_phase;
-} where
-  further : begins ends_name (parts_text h.parts ++ (h.held ++ ahead)) ≡ true → begins ends_name (parts_text h.parts ++ (h.held ++ (ahead ++ more))) ≡ true
-  further e =
-      ap (λ (x : List Placed). begins ends_name (parts_text h.parts ++ x)) (sym (append_assoc h.held ahead more)) ∙ ap (begins ends_name) (sym (append_assoc (parts_text h.parts) (h.held ++ ahead) more))
-      ∙ begins-more ends_name (parts_text h.parts ++ (h.held ++ ahead)) more e
+  has_attributes = has;
+  past = past;
+  has_phase = phased;
+}
+
+pub looks_further : (table : Entities) (names : Texts) (walk : TagWalk) (body ahead : List Placed) (errors : List ParseError) → IsInTag table names walk body ahead errors → (more : List Placed) → IsInTag table names walk body (ahead ++ more) errors
+looks_further table names walk body ahead errors h more =
+    stays table names names walk walk body ahead (ahead ++ more) errors h refl (λ end others. subst (λ (x : List Placed). AreParts table end h.parts (h.held ++ x)) (sym (append_assoc ahead more others)) (h.are_parts end (more ++ others)))
+    h.has_attributes (past_more walk.phase _ _ further h.past) h.has_phase
+  where
+    further : begins ends_name (parts_text h.parts ++ (h.held ++ ahead)) ≡ true → begins ends_name (parts_text h.parts ++ (h.held ++ (ahead ++ more))) ≡ true
+    further e =
+        ap (λ (x : List Placed). begins ends_name (parts_text h.parts ++ x)) (sym (append_assoc h.held ahead more)) ∙ ap (begins ends_name) (sym (append_assoc (parts_text h.parts) (h.held ++ ahead) more))
+        ∙ begins-more ends_name (parts_text h.parts ++ (h.held ++ ahead)) more e
 
 pub looks_ahead : (table : Entities) (names : Texts) (walk : TagWalk) (body : List Placed) (errors : List ParseError) → IsInTag table names walk body [] errors → (ahead : List Placed) → IsInTag table names walk body ahead errors
 looks_ahead table names walk body errors h ahead = looks_further table names walk body [] errors h ahead
@@ -43,22 +51,9 @@ looks_ahead table names walk body errors h ahead = looks_further table names wal
 pub other_value : (table : Entities) (names : Texts) (walk new : TagWalk) (body ahead : List Placed) (errors : List ParseError) → IsInTag table names walk body ahead errors → walk.phase ≡ phase.BeforeAttributeName → new.phase ≡ walk.phase → new.name ≡ walk.name → new.seen ≡ walk.seen → new.attrs ≡ walk.attrs → new.any ≡ walk.any
     → IsInTag table names new body ahead errors
 other_value table names walk new body ahead errors h before same named seen attrs any =
-    let none = subst (λ (x : TagState). HasPhase x table walk h.parts h.held h.own) before h.has_phase in
-    record {
-      name = h.name;
-      parts = h.parts;
-      held = h.held;
-      own = h.own;
-      body_is = h.body_is;
-      first = h.first;
-      passes = h.passes;
-      name_is = ap string_bytes named ∙ h.name_is;
-      are_parts = h.are_parts;
-      errors_are = h.errors_are;
-      has_attributes = holds_same names walk new h.parts seen attrs any h.has_attributes;
-      past = subst (λ (x : TagState). IsPast x (begins ends_name (parts_text h.parts ++ (h.held ++ ahead)))) (sym same) h.past;
-      has_phase = subst (λ (x : TagState). HasPhase x table new h.parts h.held h.own) (sym (same ∙ before)) none;
-    }
+    stays table names names walk new body ahead ahead errors h named h.are_parts (holds_same names walk new h.parts seen attrs any h.has_attributes)
+    (subst (λ (x : TagState). IsPast x (begins ends_name (parts_text h.parts ++ (h.held ++ ahead)))) (sym same) h.past)
+    (subst (λ (x : TagState). HasPhase x table new h.parts h.held h.own) (sym (same ∙ before)) (subst (λ (x : TagState). HasPhase x table walk h.parts h.held h.own) before h.has_phase))
 
 pub attributes_grow : (old new : Texts) → Grows old new → (walk : TagWalk) (parts : List Part) → HasAttributes old walk parts → HasAttributes new walk parts
 attributes_grow old new grows walk parts h = record {
@@ -70,18 +65,4 @@ attributes_grow old new grows walk parts h = record {
 }
 
 pub names_grow : (old new : Texts) → Grows old new → (table : Entities) (walk : TagWalk) (body ahead : List Placed) (errors : List ParseError) → IsInTag table old walk body ahead errors → IsInTag table new walk body ahead errors
-names_grow old new grows table walk body ahead errors h = record {
-  name = h.name;
-  parts = h.parts;
-  held = h.held;
-  own = h.own;
-  body_is = h.body_is;
-  first = h.first;
-  passes = h.passes;
-  name_is = h.name_is;
-  are_parts = h.are_parts;
-  errors_are = h.errors_are;
-  has_attributes = attributes_grow old new grows walk h.parts h.has_attributes;
-  past = h.past;
-  has_phase = h.has_phase;
-}
+names_grow old new grows table walk body ahead errors h = stays table old new walk walk body ahead ahead errors h refl h.are_parts (attributes_grow old new grows walk h.parts h.has_attributes) h.past h.has_phase

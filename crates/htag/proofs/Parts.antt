@@ -1,6 +1,6 @@
 -- Parts of a tag, one by one.
 use Rattle.std.proofs.Math.Bool.{or-false}
-use Rattle.htag.proofs.Vocabulary.{◌≡◌, ℕ, Bool, true, false, ◌||◌, List, [], ◌∷◌, ◌++◌, sym, refl, ap, ◌∙◌, subst, append_assoc, append-nil, Option, None, is_some, Vec, Global, flat_map-append, ParseError, Placed, begins, stops, all, is_space, past, Texts, and_parts, Entities, Attr, Seen, TagWalk, AttrsMean, HasSeen, Attribute, Part, IsPart, AreParts, parts_text, part_errors_after, attributes_after, has_attribute, named_by, kept_attribute, repeated, names_after, NumbersMean, HasAttributes, arith, nat_tests}
+use Rattle.htag.proofs.Vocabulary.{◌≡◌, ℕ, Bool, true, false, ◌||◌, List, [], ◌∷◌, ◌++◌, sym, refl, ap, ◌∙◌, subst, append_assoc, append-nil, Option, None, is_some, Vec, Global, flat_map-append, ParseError, Placed, begins, stops, all, is_space, past, Texts, and_parts, Entities, Attr, Seen, TagWalk, AttrsMean, HasSeen, Attribute, Part, IsPart, AreParts, parts_text, part_errors_after, attributes_after, has_attribute, named_by, kept_attribute, repeated, names_after, NumbersMean, HasAttributes, arith, nat_tests, tag_errors, null_errors}
 -- under the names by which they are cited
 pub use Rattle.names.proofs.Words.{begins-append as begins-more, all-one as all-snoc}
 
@@ -32,6 +32,14 @@ pub errors-snoc : (names : List (List ℕ)) (parts : List Part) (part : Part) �
 errors-snoc names [] part = append-nil (part.errors ++ repeated names part.attribute)
 errors-snoc names (x ∷ xs) part = ap (λ (e : List ParseError). (x.errors ++ repeated names x.attribute) ++ e) (errors-snoc (named_by x.attribute ++ names) xs part)
     ∙ sym (append_assoc (x.errors ++ repeated names x.attribute) (part_errors_after (named_by x.attribute ++ names) xs) (part.errors ++ repeated (names_after (named_by x.attribute ++ names) xs) part.attribute))
+
+-- the errors of a part more
+pub part_errors : (name : List Placed) (parts : List Part) (held errors : List ParseError) → errors ≡ tag_errors name parts ++ held → (part : Part) (e later : List ParseError) → part.errors ≡ held ++ e
+    → later ≡ (errors ++ e) ++ repeated (names_after [] parts) part.attribute → later ≡ tag_errors name (parts ++ part ∷ [])
+part_errors name parts held errors so_far part e later own is =
+    let r : List ParseError = repeated (names_after [] parts) part.attribute in
+    is ∙ ap (λ (x : List ParseError). (x ++ e) ++ r) so_far ∙ ap (λ (x : List ParseError). x ++ r) (append_assoc (tag_errors name parts) held e) ∙ ap (λ (x : List ParseError). (tag_errors name parts ++ x) ++ r) (sym own)
+    ∙ append_assoc (tag_errors name parts) part.errors r ∙ append_assoc (null_errors name) (part_errors_after [] parts) (part.errors ++ r) ∙ ap (λ (x : List ParseError). null_errors name ++ x) (sym (errors-snoc [] parts part))
 
 pub attributes-snoc : (names : List (List ℕ)) (parts : List Part) (part : Part) → attributes_after names (parts ++ part ∷ []) ≡ attributes_after names parts ++ kept_attribute (names_after names parts) part.attribute
 attributes-snoc names [] part = append-nil (kept_attribute names part.attribute)

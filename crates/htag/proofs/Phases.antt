@@ -1,49 +1,24 @@
 -- A tag, a character at a time.
-use Rattle.htag.proofs.Vocabulary.{◌≡◌, ℕ, true, false, not, List, [], ◌∷◌, ◌++◌, sym, refl, ap, ◌∙◌, subst, append_assoc, append-nil, Some, None, encode_utf8, to_ascii_lowercase, string_bytes, UnexpectedEqualsSignBeforeAttributeName, ParseError, Placed, Texts, characters, begins, place, is_space, is_equals, is_greater, error, error_if, null_errors, without_null, and_both, Entities, TagState, TagWalk, Part, IsPart, AreParts, parts_text, part_errors_after, tag_errors, tag_close, ends_name, ends_attribute_name, attribute_name_errors, name_errors_here, attribute_part, repeated, names_after, HasAttributes, HasName, InAttributeName, HasPhase, IsPast, IsInTag, IsWholeTag, KeepsTag, EndsAttribute, walked_attribute}
+use Rattle.htag.proofs.Vocabulary.{◌≡◌, ℕ, true, false, not, List, [], ◌∷◌, ◌++◌, sym, refl, ap, ◌∙◌, subst, append_assoc, append-nil, None, encode_utf8, to_ascii_lowercase, string_bytes, UnexpectedEqualsSignBeforeAttributeName, ParseError, Placed, Texts, characters, begins, is_space, is_equals, is_greater, error, error_if, without_null, and_both, Entities, TagState, TagWalk, Part, IsPart, AreParts, parts_text, tag_errors, tag_close, ends_name, ends_attribute_name, attribute_name_errors, name_errors_here, attribute_part, repeated, names_after, HasAttributes, HasName, InAttributeName, HasPhase, IsPast, IsInTag, IsWholeTag, KeepsTag, EndsAttribute}
 use Rattle.names.specs.declared.error.ErrorCode.TheVariants.{UnexpectedSolidusInTag}
 use Rattle.htag.specs.declared.tag_state.TagState.TheVariants as phase
 use Rattle.htag.specs.Steps.{AddsToName, BeginsAttribute}
-use Rattle.htag.proofs.Going.{Past, past_is, held_in, body_more, goes_on, letters_follow}
-use Rattle.htag.proofs.Parts.{parts_text-snoc, AreParts-snoc, errors-snoc, holds_plain, holds_same, past-space}
+use Rattle.htag.proofs.Going.{Past, past_is, held_in, body_more, goes_on, part_read, attribute_told, letters_follow}
+use Rattle.htag.proofs.Parts.{holds_plain, holds_same, past-space}
 
 abbrev pub space_part : Placed → Part
 space_part p = record { text = p ∷ []; attribute = None; errors = [] }
-
--- the errors of a part more
-pub part_errors : (name : List Placed) (parts : List Part) (held errors : List ParseError) → errors ≡ tag_errors name parts ++ held → (part : Part) (e later : List ParseError) → part.errors ≡ held ++ e
-    → later ≡ (errors ++ e) ++ repeated (names_after [] parts) part.attribute → later ≡ tag_errors name (parts ++ part ∷ [])
-part_errors name parts held errors so_far part e later own is =
-    let r : List ParseError = repeated (names_after [] parts) part.attribute in
-    is ∙ ap (λ (x : List ParseError). (x ++ e) ++ r) so_far ∙ ap (λ (x : List ParseError). x ++ r) (append_assoc (tag_errors name parts) held e) ∙ ap (λ (x : List ParseError). (tag_errors name parts ++ x) ++ r) (sym own)
-    ∙ append_assoc (tag_errors name parts) part.errors r ∙ append_assoc (null_errors name) (part_errors_after [] parts) (part.errors ++ r) ∙ ap (λ (x : List ParseError). null_errors name ++ x) (sym (errors-snoc [] parts part))
 
 pub keeps_self : (walk : TagWalk) → KeepsTag walk walk
 keeps_self walk = record { kind_is = refl; name_is = refl; attrs_are = refl; seen_is = refl; any_is = refl }
 
 module _ (table : Entities) (names : Texts) (walk : TagWalk) (body : List Placed) (p : Placed) (errors : List ParseError) (h : IsInTag table names walk body (p ∷ []) errors) where
   -- a part has ended before the character
-  pub errors_then : (part : Part) (e later : List ParseError) → part.errors ≡ h.own ++ e → later ≡ (errors ++ e) ++ repeated (names_after [] h.parts) part.attribute → later ≡ tag_errors h.name (h.parts ++ part ∷ []) ++ []
-  errors_then part e later own is = part_errors h.name h.parts h.own errors h.errors_are part e later own is ∙ sym (append-nil (tag_errors h.name (h.parts ++ part ∷ [])))
-
-  pub part_ends : (part : Part) → part.text ≡ h.held → ((end : ℕ) (more : List Placed) → IsPart table end (p ∷ more) part) → (after : Texts) (new : TagWalk) (e later : List ParseError) → part.errors ≡ h.own ++ e
+  part_ends : (part : Part) → part.text ≡ h.held → ((end : ℕ) (more : List Placed) → IsPart table end (p ∷ more) part) → (after : Texts) (new : TagWalk) (e later : List ParseError) → part.errors ≡ h.own ++ e
       → later ≡ (errors ++ e) ++ repeated (names_after [] h.parts) part.attribute → new.name ≡ walk.name → new.phase ≡ phase.BeforeAttributeName → HasAttributes after new (h.parts ++ part ∷ []) → Past table names walk body (p ∷ []) errors h ≡ true
       → IsInTag table after new body (p ∷ []) later
-  part_ends part text is after new e later own later_is named before has gone = record {
-    name = h.name;
-    parts = h.parts ++ part ∷ [];
-    held = [];
-    own = [];
-    body_is = h.body_is ∙ ap (λ (x : List Placed). h.name ++ x) (ap (λ (x : List Placed). parts_text h.parts ++ x) (sym text) ∙ sym (parts_text-snoc h.parts part) ∙ sym (append-nil (parts_text (h.parts ++ part ∷ []))));
-    first = h.first;
-    passes = h.passes;
-    name_is = ap string_bytes named ∙ h.name_is;
-    are_parts = λ end more. AreParts-snoc table end h.parts part (p ∷ more) (subst (λ (x : List Placed). AreParts table end h.parts (x ++ (p ∷ more))) (sym text) (h.are_parts end more)) (is end more);
-    errors_are = errors_then part e later own later_is;
-    has_attributes = has;
-    past = subst (λ (x : TagState). IsPast x (begins ends_name (parts_text (h.parts ++ part ∷ []) ++ p ∷ []))) (sym before)
-        (ap (λ (x : List Placed). begins ends_name (x ++ p ∷ [])) (parts_text-snoc h.parts part ∙ ap (λ (x : List Placed). parts_text h.parts ++ x) text) ∙ ap (begins ends_name) (append_assoc (parts_text h.parts) h.held (p ∷ [])) ∙ gone);
-    has_phase = subst (λ (x : TagState). HasPhase x table new (h.parts ++ part ∷ []) [] []) (sym before) (refl, refl);
-  }
+  part_ends part text =
+      part_read table names walk body (p ∷ []) errors h part body (p ∷ []) [] (h.body_is ∙ ap (λ (x : List Placed). h.name ++ (parts_text h.parts ++ x)) (sym text)) (ap (λ (x : List Placed). x ++ p ∷ []) (sym text))
 
   -- an attribute has ended before the character
   pub attribute_ends : (mid_walk : TagWalk) → KeepsTag walk mid_walk → mid_walk.attribute ≡ walk.attribute → mid_walk.at ≡ walk.at → (name others : List Placed) (value : List ℕ) (e' : List ParseError) → name ++ others ≡ h.held
@@ -51,10 +26,7 @@ module _ (table : Entities) (names : Texts) (walk : TagWalk) (body : List Placed
       → (after : Texts) (new : TagWalk) (later : List ParseError) → EndsAttribute names after mid_walk mid new later → Past table names walk body (p ∷ []) errors h ≡ true → IsInTag table after new body (p ∷ []) later
   attribute_ends mid_walk keeps attribute at name others value e' text is has value_is e mid own mid_is after new later ends gone =
       let part : Part = attribute_part name others value e' in
-      let same : part.attribute ≡ Some (walked_attribute mid_walk) =
-      ap (λ (x : List ℕ). Some (record { name = x; value = value; at = place 0 name })) (sym has.is ∙ ap string_bytes (sym attribute)) ∙ ap (λ (x : List ℕ). Some (record { name = string_bytes mid_walk.attribute; value = x; at = place 0 name })) (sym value_is)
-      ∙ ap (λ (x : ℕ). Some (record { name = string_bytes mid_walk.attribute; value = string_bytes mid_walk.value.text; at = x })) (has.at_is ∙ sym at) in
-      let ended = ends.ends h.parts part same (holds_same names walk mid_walk h.parts keeps.seen_is keeps.attrs_are keeps.any_is h.has_attributes) in
+      let ended = attribute_told table names walk body (p ∷ []) errors h mid_walk keeps attribute at name others value e' has value_is mid after new later ends in
       part_ends part text is after new e later own (ended.1 ∙ ap (λ (x : List ParseError). x ++ repeated (names_after [] h.parts) part.attribute) mid_is) (ends.name_is ∙ keeps.name_is) ends.phase_is ended.0 gone
 
   -- BEFORE AN ATTRIBUTE
@@ -81,25 +53,6 @@ module _ (table : Entities) (names : Texts) (walk : TagWalk) (body : List Placed
       has_attributes = holds_same names walk new h.parts seen attrs any h.has_attributes;
       ends = ap (λ (x : List Placed). begins ends_name (parts_text h.parts ++ (x ++ p ∷ []))) (sym nothing.0) ∙ gone;
       closes = ap (λ (c : ℕ). c ∷ []) is ∙ ap tag_close (sym plain);
-    }
-
-    -- white space
-    pub space_follows : is_space p.ch ≡ true → IsInTag table names walk (body ++ p ∷ []) [] errors
-    space_follows is = record {
-      name = h.name;
-      parts = h.parts ++ space_part p ∷ [];
-      held = [];
-      own = [];
-      body_is = body_more table names walk body (p ∷ []) errors h ∙ ap (λ (x : List Placed). h.name ++ (parts_text h.parts ++ (x ++ p ∷ []))) nothing.0 ∙ ap (λ (x : List Placed). h.name ++ x) (sym (parts_text-snoc h.parts (space_part p)) ∙ sym (append-nil (parts_text (h.parts ++ space_part p ∷ []))));
-      first = h.first;
-      passes = h.passes;
-      name_is = h.name_is;
-      are_parts = λ end more. AreParts-snoc table end h.parts (space_part p) more (subst (λ (x : List Placed). AreParts table end h.parts (x ++ (p ∷ more))) nothing.0 (h.are_parts end more)) (IsPart.space p is refl);
-      errors_are = errors_then (space_part p) [] errors (sym (append-nil h.own ∙ nothing.1)) (sym (append-nil (errors ++ []) ∙ append-nil errors));
-      has_attributes = holds_plain names walk walk h.parts (space_part p) refl refl refl refl h.has_attributes;
-      past = subst (λ (x : TagState). IsPast x (begins ends_name (parts_text (h.parts ++ space_part p ∷ []) ++ []))) (sym before)
-          (ap (begins ends_name) (append-nil (parts_text (h.parts ++ space_part p ∷ [])) ∙ parts_text-snoc h.parts (space_part p)) ∙ ap (λ (x : List Placed). begins ends_name (parts_text h.parts ++ (x ++ p ∷ []))) (sym nothing.0) ∙ gone);
-      has_phase = subst (λ (x : TagState). HasPhase x table walk (h.parts ++ space_part p ∷ []) [] []) (sym before) (refl, refl);
     }
 
     -- `/`

@@ -1,5 +1,5 @@
 -- An attribute that stands whole in a run.
-use Rattle.htag.proofs.Vocabulary.{◌≡◌, ◌≤◌, ◌<◌, ℕ, ◌+◌, ◌-◌, Bool, true, false, not, ◌||◌, eqb, List, [], ◌∷◌, ◌++◌, length, take, drop, sym, refl, ap, ◌∙◌, subst, append_assoc, append-nil, arith, nat_tests, and_parts, Some, get_or, length-take-le, take-append-drop, take_all, string_bytes, flat_map, list_all, len_utf8, ParseError, Placed, MissingWhitespaceBetweenAttributes, UnexpectedEqualsSignBeforeAttributeName, Texts, all, begins, stops, characters, error_if, is_equals, is_greater, is_quote, is_space, name_bytes, past, place, placed, all_weaker, all_placed, Entities, Piece, TagState, TagWalk, AreValue, pieces_text, value_bytes, HasPhase, IsInTag, IsPast, is_unquoted_byte, is_word_byte, Attribute, AreParts, IsPart, Part, attribute_name_errors, attribute_part, ends_attribute_name, ends_name, ends_unquoted, name_errors_here, names_after, parts_text, repeated, tag_errors, unquoted_errors, value_errors}
+use Rattle.htag.proofs.Vocabulary.{◌≡◌, ◌≤◌, ◌<◌, ℕ, ◌+◌, ◌-◌, Bool, true, false, not, ◌||◌, eqb, List, [], ◌∷◌, ◌++◌, length, take, drop, sym, refl, ap, ◌∙◌, subst, append_assoc, append-nil, arith, nat_tests, and_parts, Some, get_or, length-take-le, take-append-drop, take_all, flat_map, list_all, len_utf8, ParseError, Placed, MissingWhitespaceBetweenAttributes, UnexpectedEqualsSignBeforeAttributeName, Texts, all, begins, stops, characters, error_if, is_equals, is_greater, is_quote, is_space, name_bytes, past, place, placed, all_weaker, all_placed, Entities, Piece, TagWalk, AreValue, pieces_text, value_bytes, IsInTag, is_unquoted_byte, is_word_byte, Attribute, IsPart, Part, attribute_name_errors, attribute_part, ends_attribute_name, ends_name, ends_unquoted, name_errors_here, names_after, repeated, unquoted_errors, value_errors}
 use Rattle.std.proofs.Math.Seq.{get_or-append_seam, drop-length}
 use Rattle.std.proofs.lemmas.Bool.{and_from}
 use Rattle.std.proofs.lemmas.List.{length-append, take_at, drop_at, drop-drop}
@@ -21,10 +21,9 @@ use Rattle.htag.specs.Tag.{IsAttributeName}
 use Rattle.htag.proofs.Ascii.{ascii_chars, ascii_placed, cut_at, each_ascii}
 use Rattle.htag.proofs.Even.{even_of, not_odd}
 use Rattle.htag.proofs.Ahead.{spaces_follow}
-use Rattle.htag.proofs.Going.{held_in, past_is}
+use Rattle.htag.proofs.Going.{held_in, past_is, body_then, part_read}
 use Rattle.htag.proofs.InRun.{next_then, word_ascii, word_bytes, word_errors, word_in_attribute, word_in_name, word_no_equals}
-use Rattle.htag.proofs.Parts.{AreParts-snoc, begins-more, holds_same, parts_text-snoc, past-space}
-use Rattle.htag.proofs.Phases.{part_errors}
+use Rattle.htag.proofs.Parts.{holds_same, past-space}
 use Rattle.htag.proofs.QuietValues.{all_chars}
 
 -- The front of this text is a part of a tag with this attribute and without errors, where this character comes next, and after it is white space.
@@ -380,32 +379,12 @@ module _ (run : List ℕ) (found : PlainAttribute) (found_is : IsPlainAttribute 
           let nothing = held_in table names walk body (next_at at run 0) errors h phase.BeforeAttributeName before_it in
           let gone = past_is table names walk body (next_at at run 0) errors h phase.BeforeAttributeName before_it in
           let ended = ends.ends h.parts part refl (holds_same names walk mid h.parts seen attrs any h.has_attributes) in
-          let ahead : part.text ≡ next_at at run 0 ++ drop 1 part.text = front.begins_so in
-          let early : IsInTag table later_names new (body ++ part.text) after later = record {
-            name = h.name;
-            parts = h.parts ++ part ∷ [];
-            held = [];
-            own = [];
-            body_is = ap (λ (x : List Placed). x ++ part.text) (h.body_is ∙ ap (λ (x : List Placed). h.name ++ (parts_text h.parts ++ x)) nothing.0 ∙ ap (λ (x : List Placed). h.name ++ x) (append-nil (parts_text h.parts)))
-                ∙ append_assoc h.name (parts_text h.parts) part.text ∙ ap (λ (x : List Placed). h.name ++ x) (sym (parts_text-snoc h.parts part) ∙ sym (append-nil (parts_text (h.parts ++ part ∷ []))));
-            first = h.first;
-            passes = h.passes;
-            name_is = ap string_bytes (ends.name_is ∙ name_same) ∙ h.name_is;
-            are_parts = λ last more.
-                let rest : List Placed = after ++ more in
-                AreParts-snoc table last h.parts part rest
-                (subst (AreParts table last h.parts) (ap (λ (x : List Placed). x ++ (next_at at run 0 ++ (drop 1 part.text ++ rest))) nothing.0 ∙ sym (append_assoc (next_at at run 0) (drop 1 part.text) rest) ∙ ap (λ (x : List Placed). x ++ rest) (sym ahead))
-                (h.are_parts last (drop 1 part.text ++ rest)))
-                (subst (λ (x : List Placed). IsPart table last x part) (sym (append_assoc front.spaces (p ∷ []) more)) (front.is_part last (p ∷ more) refl));
-            errors_are = part_errors h.name h.parts h.own errors h.errors_are part [] later (sym (append-nil h.own ∙ nothing.1)) (ended.1 ∙ ap (λ (x : List ParseError). x ++ repeated (names_after [] h.parts) part.attribute) (sym (append-nil errors)))
-                ∙ sym (append-nil (tag_errors h.name (h.parts ++ part ∷ [])));
-            has_attributes = ended.0;
-            past = subst (λ (x : TagState). IsPast x (begins ends_name (parts_text (h.parts ++ part ∷ []) ++ after))) (sym ends.phase_is)
-                (ap (λ (x : List Placed). begins ends_name (x ++ after)) (parts_text-snoc h.parts part ∙ ap (λ (x : List Placed). parts_text h.parts ++ x) ahead ∙ sym (append_assoc (parts_text h.parts) (next_at at run 0) (drop 1 part.text)))
-                ∙ ap (begins ends_name) (append_assoc (parts_text h.parts ++ next_at at run 0) (drop 1 part.text) after)
-                ∙ begins-more ends_name (parts_text h.parts ++ next_at at run 0) (drop 1 part.text ++ after) (ap (λ (x : List Placed). begins ends_name (parts_text h.parts ++ (x ++ next_at at run 0))) (sym nothing.0) ∙ gone));
-            has_phase = subst (λ (x : TagState). HasPhase x table new (h.parts ++ part ∷ []) [] []) (sym ends.phase_is) (refl, refl);
-          } in
+          let fed : List Placed = next_at at run 0 in
+          let early : IsInTag table later_names new (body ++ part.text) after later =
+          part_read table names walk body fed errors h part (body ++ part.text) after (drop 1 part.text ++ after) (body_then table names walk body fed errors h nothing.0 part.text)
+          (ap (λ (x : List Placed). x ++ (fed ++ (drop 1 part.text ++ after))) nothing.0 ∙ sym (append_assoc fed (drop 1 part.text) after) ∙ ap (λ (x : List Placed). x ++ after) (sym front.begins_so))
+          (λ last more. subst (λ (x : List Placed). IsPart table last x part) (sym (append_assoc front.spaces (p ∷ []) more)) (front.is_part last (p ∷ more) refl)) later_names new [] later (sym (append-nil h.own ∙ nothing.1))
+          (ended.1 ∙ ap (λ (x : List ParseError). x ++ repeated (names_after [] h.parts) part.attribute) (sym (append-nil errors))) (ends.name_is ∙ name_same) ends.phase_is ended.0 gone in
           subst (λ (x : List Placed). IsInTag table later_names new (body ++ placed at (chars (take end run))) x later) (sym next_is)
           (subst (λ (x : List Placed). IsInTag table later_names new x (p ∷ []) later) (append_assoc body front.own front.spaces ∙ ap (λ (x : List Placed). body ++ x) (sym front.text_is))
           (spaces_follow front.spaces table later_names new (body ++ front.own) p later ends.phase_is front.are_spaces early))

@@ -53,7 +53,8 @@ impl<'t> TagWalk<'t> {
         Ok((count, false))
     }
 
-    /// Takes what stands whole at the front of a run, or else one character. Returns how many bytes they are, and whether the tag has ended.
+    /// Takes what stands whole at the front of a run, or else one character: between attributes most often one that ends a name, which needs
+    /// no look at the state. Returns how many bytes they are, and whether the tag has ended.
     #[inline(always)]
     fn take_part(
         &mut self,
@@ -75,27 +76,6 @@ impl<'t> TagWalk<'t> {
         if count > 0 {
             return Ok((count, false));
         }
-        self.take_first(table, names, run, at, errors)
-    }
-
-    /// Takes the first character of a run; between attributes most often one that ends a name, which needs no look at the state. Returns its
-    /// length, and whether the tag has ended.
-    #[inline(always)]
-    fn take_first(
-        &mut self,
-        table: &'t Table,
-        names: &mut Names,
-        run: &str,
-        at: u64,
-        errors: &mut Vec<ParseError>,
-    ) -> Result<(usize, bool), Refusal>
-        requires some { 0 < length run.now }
-        ensures cut { IfOk result (λ it. (0 < it.0) × IsCut it.0 run.now) }
-        ensures takes { (body : List Character) → IsInTag table.now names.old self.old body (next_at at run.now 0) errors.old.items
-            → TakesTagPart table.now names.new body at run.now result self.new errors.new.items }
-        ensures grows { Grows names.old names.new }
-        ensures kind { OnOk result (self.new.kind ≡ self.old.kind) }
-    {
         let first = run.as_bytes()[0];
         if matches!(self.phase, TagState::BeforeAttributeName) && ends(first) {
             let ch = char::from(first);

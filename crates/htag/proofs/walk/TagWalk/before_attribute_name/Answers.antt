@@ -1,5 +1,6 @@
-use Rattle.htag.proofs.Vocabulary.{◌≡◌, true, false, refl, arith, nat_tests, is_space, ends_name}
-use Rattle.htag.proofs.Phases.{tag_ends, space_follows, solidus_follows, attribute_begins}
+use Rattle.htag.proofs.Vocabulary.{◌≡◌, [], true, false, refl, arith, nat_tests, is_space, ends_name}
+use Rattle.htag.proofs.Ahead.{space_step}
+use Rattle.htag.proofs.Phases.{tag_ends, solidus_follows, attribute_begins}
 use Rattle.htag.proofs.walk.TagWalk.before_attribute_name.Goals as goal
 
 pub returns-then-next-eq62-clause-takes : goal.returns-then-next-eq62-clause-takes
@@ -8,7 +9,7 @@ returns-then-next-eq62-clause-takes c = λ table names body h. tag_ends _ _ _ bo
 pub returns-then-is_ascii_whitespace-clause-takes : goal.returns-then-is_ascii_whitespace-clause-takes
 returns-then-is_ascii_whitespace-clause-takes c = λ table names body h.
     let is : is_space c.args.next.ch ≡ true = grind (arith, nat_tests) in
-    space_follows _ _ _ body _ _ h c.requires is
+    space_step _ _ _ body _ [] _ c.requires is h
 
 pub returns-then-next-eq47-clause-takes : goal.returns-then-next-eq47-clause-takes
 returns-then-next-eq47-clause-takes c = λ table names body h. solidus_follows _ _ _ body _ _ h c.requires _ refl refl refl refl refl c.if-next-eq47.true
