@@ -1,7 +1,7 @@
 -- The names of other crates and of specs/ that several proofs cite, in one place.
 pub use Rattle.hnodes.proofs.Images.{find-map, after-map, any-map, before-map, changed-map, position-map, put_before-map, without-map, all-map, changed_at-map, filter-map}
 pub use Rattle.hnodes.proofs.LastUp.{up-sought, up-other, up-found, up-within, up-past, up-alike, up-least}
-pub use Rattle.hnodes.proofs.Nearest.{no_words, words, remove_nearest, insert_nearest, slice_get_nearest, is_some-position, change_nearest, length-without, position_is, position_within, remove_run_nearest, reverse-map, reverse_push, take_nearest, drop_nearest, set_nearest, changed_at_past, get_nearest, position_nearest, reverse_split}
+pub use Rattle.hnodes.proofs.Nearest.{no_words, words, remove_nearest, insert_nearest, slice_get_nearest, is_some-position, change_nearest, length-without, position_is, position_within, reverse-map, reverse_push, take_nearest, drop_nearest, set_nearest, changed_at_past, get_nearest, position_nearest, reverse_split}
 pub use Rattle.hnodes.proofs.Places.{last_place-le, position-some, position-none}
 pub use Rattle.hnodes.proofs.Tables.{drop-more, take-more}
 pub use Rattle.hnodes.specs.IndexedList.{last_up, none}
