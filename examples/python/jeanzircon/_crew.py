@@ -29,7 +29,7 @@ NOTHING = b'"title": null, "links": [], "errors": {}'
 
 
 # Pages are handed over so many bytes at a time, and one page more.
-BATCH = 1 << 18
+BATCH = 1 << 19
 SETTINGS, CALL = given(bad_bytes=1), getattr(ENGINE, "said", None)
 quoted = json.JSONEncoder().encode
 known = functools.lru_cache(64)(quoted)
