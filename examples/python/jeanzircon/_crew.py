@@ -159,7 +159,7 @@ class Worker:
         self._start([it._link for it in others])
 
     def _start(self, others: list[Connection]) -> None:
-        """Starts it: as a copy, in a fifth of the time, where no other thread is there, nor workers but those with these links."""
+        """Starts it: as a copy, which need not read its modules, where no other thread is there, nor workers but those with these links."""
         is_alone, stops = threading.active_count() == 1, [signal.SIGINT, signal.SIGTERM]
         before = signal.pthread_sigmask(signal.SIG_BLOCK, stops)
         if not is_alone:
