@@ -464,30 +464,23 @@ static void check_quirks(void) {
     check(jz_quirks_matter((const uint8_t *)"<!doctype'htmL", 10, standard.quirks) == 0, "an identifier that is cut off");
 }
 
-/* The least seconds that a parse of a page takes. */
-static double seconds(const char *page, size_t length, const jz_options *given) {
-    clock_t best = CLOCKS_PER_SEC;
-    for (int i = 0; i < 200; i++) {
-        jz_doc doc;
-        jz_answer answer;
-        clock_t begun = clock(), took;
-        check(jz_parse((const uint8_t *)page, length, given, &doc, &answer) == JZ_OK, "a parse that is timed");
-        took = clock() - begun;
-        jz_free(&doc);
-        if (took < best) best = took;
-    }
-    return (double)best / CLOCKS_PER_SEC;
-}
-
 /* That reading the Standard's lists costs little beside a small page, one of some 5 KB: two or three times that page where nothing else runs
  * on the machine (their JSON takes seventy). */
 static void check_lists(void) {
     static char page[ROOM];
+    const jz_options lists[] = { JZ_DEFAULTS, JZ_STANDARD };
     size_t length = lists_page(page, 50);
-    jz_options core = JZ_DEFAULTS, standard = JZ_STANDARD;
-    double without = seconds(page, length, &core), with = seconds(page, length, &standard);
-    printf("a page of %zu bytes: %.0f us, with the Standard's lists %.0f. ", length, without * 1e6, with * 1e6);
-    check(with <= 5 * without, "the time of a page with the Standard's lists");
+    clock_t best[] = { CLOCKS_PER_SEC, CLOCKS_PER_SEC };
+    for (int i = 0; i < 400; i++) {
+        made it;
+        clock_t took = clock();
+        check(jz_parse((const uint8_t *)page, length, &lists[i % 2], &it.doc, &it.answer) == JZ_OK, "a parse that is timed");
+        took = clock() - took;
+        jz_free(&it.doc);
+        if (took < best[i % 2]) best[i % 2] = took;
+    }
+    printf("a page of %zu bytes: %.0f us, with the Standard's lists %.0f. ", length, best[0] * 1e6 / CLOCKS_PER_SEC, best[1] * 1e6 / CLOCKS_PER_SEC);
+    check(best[1] <= 5 * best[0], "the time of a page with the Standard's lists");
 }
 
 /* Checks what a process of its own answers. */
