@@ -324,29 +324,30 @@ static size_t lists_page(char *page, int items) {
     return (size_t)(end - page);
 }
 
+/* Something is made of a page, in so many parses at the most. */
+static void check_parsed(uint32_t task, const void *page, size_t length, long most, const char *what) {
+    made it;
+    parses = 0;
+    check(make(task, page, length, &it) == JZ_OK && parses <= most, what);
+    give_back(task, &it);
+}
+
 /* How often an ordinary page is parsed, and one whose text or nodes are many for its length. */
 static void check_parses(void) {
     static char page[ROOM];
+    static const uint32_t tasks[] = { JZ_TREE, TREE, PAGE, PLACED };
     size_t length = lists_page(page, 200);
-    made it;
     for (uint32_t task = 0; task < ALL; task++) {
         set_context(task);
-        parses = 0;
-        check(make(task, page, length, &it) == JZ_OK && parses == 1, "the parses of an ordinary page");
-        give_back(task, &it);
+        check_parsed(task, page, length, 1, "the parses of an ordinary page");
     }
     memset(page, '\xff', 4096);
     options.bad_bytes = 1;
-    parses = 0;
-    check(make(JZ_ERRORS, page, 4096, &it) == JZ_OK && parses == 1, "the parses of a page of bad bytes for its errors");
-    give_back(JZ_ERRORS, &it);
+    check_parsed(JZ_ERRORS, page, 4096, 1, "the parses of a page of bad bytes for its errors");
     options.bad_bytes = 0;
     for (length = 0; length + 8 < 4096; length += 8) memcpy(page + length, "<b><div>", 8);
-    static const uint32_t tasks[] = { JZ_TREE, TREE, PAGE, PLACED };
     for (int i = 0; i < 4; i++) {
-        parses = 0;
-        check(make(tasks[i], page, length, &it) == JZ_OK && parses <= 2, "the parses of a page with long texts or many nodes");
-        give_back(tasks[i], &it);
+        check_parsed(tasks[i], page, length, 2, "the parses of a page with long texts or many nodes");
         check_rooms(tasks[i], page, length);
     }
 }
@@ -581,10 +582,8 @@ static void check_threads(void) {
 /* Each function once, for valgrind. */
 static int call_once(size_t length) {
     for (uint32_t task = 0; task < ALL; task++) {
-        made it;
         set_context(task);
-        check(make(task, input, length, &it) == JZ_OK, "a call");
-        give_back(task, &it);
+        check_parsed(task, input, length, 3, "a call");
     }
     check_feeders();
     check_sizes(length);
