@@ -36,8 +36,7 @@ static int *goes_on;             /* shared by parent and child */
 __attribute__((constructor)) static void begin(void) {
     const char *letters = getenv("REFUSE");
     goes_on = mmap(NULL, sizeof *goes_on, PROT_READ | PROT_WRITE, MAP_SHARED | MAP_ANONYMOUS, -1, 0);
-    if (!letters || goes_on == MAP_FAILED)
-        _exit(99);
+    if (!letters || goes_on == MAP_FAILED) _exit(99);
     alarm(SECONDS_OF_ALL);
     one_byte = strchr(letters, '1') != NULL;
     swept = letters;
@@ -52,13 +51,11 @@ static void report(struct outcome it) {
     static char text[1 << 18];
     it.out = syscall(SYS_pread64, OUT, text, sizeof text / 2, 0);
     it.err = syscall(SYS_pread64, ERR, text + it.out, sizeof text / 2, 0);
-    if (syscall(SYS_write, REPORT, &it, sizeof it) != sizeof it || syscall(SYS_write, REPORT, text, it.out + it.err) != it.out + it.err)
-        _exit(99);
+    if (syscall(SYS_write, REPORT, &it, sizeof it) != sizeof it || syscall(SYS_write, REPORT, text, it.out + it.err) != it.out + it.err) _exit(99);
 }
 
 static void empty(int file) {
-    if (ftruncate(file, 0) || lseek(file, 0, SEEK_SET))
-        _exit(99);
+    if (ftruncate(file, 0) || lseek(file, 0, SEEK_SET)) _exit(99);
 }
 
 /* Whether this process is to let the call fail. */
@@ -69,17 +66,14 @@ static int fails(int kind, int ways) {
         *goes_on |= kind == kind_refused;
         return kind == 'm' && kind_refused == 'm' && way == 1;
     }
-    if (!is_swept(kind))
-        return 0;
+    if (!is_swept(kind)) return 0;
     calls++;
     for (int next = 0; next < ways; next++) {
         /* No allocation came after the refused one: it is the same if all from it on are refused. */
-        if (kind == 'm' && next == 1 && !*goes_on)
-            break;
+        if (kind == 'm' && next == 1 && !*goes_on) break;
         *goes_on = 0;
         empty(OUT), empty(ERR);
-        for (int file = 0; file < FILES; file++)
-            at[file] = lseek(file, 0, SEEK_CUR);
+        for (int file = 0; file < FILES; file++) at[file] = lseek(file, 0, SEEK_CUR);
         pid_t child = _Fork();    /* which takes no locks */
         if (child == 0) {
             dup2(OUT, 1), dup2(ERR, 2), alarm(SECONDS);
@@ -87,12 +81,10 @@ static int fails(int kind, int ways) {
             return 1;
         }
         struct outcome it = {.kind = kind, .call = calls, .way = next, .is_reading = is_reading};
-        if (child < 0 || waitpid(child, &it.status, 0) != child)
-            _exit(99);
+        if (child < 0 || waitpid(child, &it.status, 0) != child) _exit(99);
         /* What the child read, the parent has yet to read. */
         for (int file = 0; file < FILES; file++)
-            if (at[file] >= 0 && file != 1 && file != 2)
-                lseek(file, at[file], SEEK_SET);
+            if (at[file] >= 0 && file != 1 && file != 2) lseek(file, at[file], SEEK_SET);
         it.goes_on = *goes_on;
         report(it);
     }
@@ -101,8 +93,7 @@ static int fails(int kind, int ways) {
 
 /* An allocation fails alone, or with all that follow. */
 static int has_memory(void) {
-    if (!fails('m', strchr(swept, 'e') ? 1 : 2))
-        return 1;
+    if (!fails('m', strchr(swept, 'e') ? 1 : 2)) return 1;
     errno = ENOMEM;
     return 0;
 }
@@ -116,8 +107,7 @@ int posix_memalign(void **place, size_t alignment, size_t size) {
 }
 
 int getentropy(void *bytes, size_t size) {
-    if (!strchr(swept, 'n'))
-        return syscall(SYS_getrandom, bytes, size, 0) == (long)size ? 0 : -1;
+    if (!strchr(swept, 'n')) return syscall(SYS_getrandom, bytes, size, 0) == (long)size ? 0 : -1;
     errno = ENOSYS;
     return -1;
 }
