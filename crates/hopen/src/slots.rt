@@ -337,31 +337,23 @@ impl Slots {
         }
     }
 
-    /// Moves an item up to a greater index.
-    fn raise(&mut self, from: usize, to: usize)
+    /// Moves an item to another index, past one item at a time.
+    fn carry(&mut self, from: usize, to: usize)
         requires listed { AreSlotsListed self.old }
-        requires from { from ≤ to }
+        requires from { from < length self.old.items.items }
         requires to { to < length self.old.items.items }
         ensures listed { AreSlotsListed self.new }
         ensures items { self.new.items.items ≡ insert (remove self.old.items.items from) to (slice_index_or self.old.items.items from stored.Hole) }
     {
-        for index in from..to {
-            self.swap(index);
-        }
-    }
-
-    /// Moves an item down to a smaller index.
-    fn lower(&mut self, from: usize, to: usize)
-        requires listed { AreSlotsListed self.old }
-        requires from { from < length self.old.items.items }
-        requires to { to ≤ from }
-        ensures listed { AreSlotsListed self.new }
-        ensures items { self.new.items.items ≡ insert (remove self.old.items.items from) to (slice_index_or self.old.items.items from stored.Hole) }
-    {
         let mut index = from;
-        while index > to {
-            index -= 1;
-            self.swap(index);
+        while index != to {
+            if index < to {
+                self.swap(index);
+                index += 1;
+            } else {
+                index -= 1;
+                self.swap(index);
+            }
         }
     }
 
@@ -378,13 +370,10 @@ impl Slots {
     {
         self.nodes.clear(index);
         let place = self.nodes.last(node_number(mark));
+        let to = if place <= index { place } else { place - 1 };
         self.nodes.set(index, node_number(node));
         self.items[index].set_node(node);
-        if place <= index {
-            self.lower(index, place);
-        } else {
-            self.raise(index, place - 1);
-        }
+        self.carry(index, to);
     }
 
     /// Moves the entry at an index to where a hole is, and leaves one.
