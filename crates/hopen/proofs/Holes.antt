@@ -67,13 +67,6 @@ taken items k j x next within is = ap (λ n. listed_items (take n items)) next �
 pub further : (c : ℕ) (o : Option ℕ) → option_map (λ k. c + k) (option_map suc o) ≡ option_map (λ k. suc c + k) o
 further c o = grind arith
 
-pub none-further : (o : Option ℕ) → option_map (λ k. 0 + k) o ≡ o
-none-further o = grind arith
-
--- a hole is passed, and so is an item where more are to be
-pub nth-hole : (n : ℕ) (x : Listed ℕ) (xs : List (Listed ℕ)) → is_listed_hole x ≡ true → nth_live n (x ∷ xs) ≡ option_map suc (nth_live n xs)
-nth-hole n x xs is = grind arith
-
 -- a hole at the end leaves
 pub live-dropped : (items : List Stored) (k j : ℕ) (x : Stored) → k ≡ suc j → j < length items → x ≡ get_or items j x → is_listed_hole (item_of x) ≡ true
     → live (listed_items (take k items)) ≡ live (listed_items (take j items))

@@ -29,7 +29,6 @@ pub mod Closed
 pub mod Pushed
 pub mod ByName
 pub mod FormattingSpellings
-pub mod Ends
 pub mod ExchangedSlots
 pub mod OpenLevels
 pub mod NodeLevels

@@ -64,12 +64,6 @@ loop-place-preserved c =
 pub loop-place-smaller : goal.loop-place-smaller
 loop-place-smaller c = let found = next c in omega (arith, found.within)
 
-pub before-place-requires-clause-within : goal.before-place-requires-clause-within
-before-place-requires-clause-within c = omega (arith, ap length c.requires, length-map c.args.attrs.now number, c.loop-place.invariant.within)
-
-pub before-place-requires-clause-number : goal.before-place-requires-clause-number
-before-place-requires-clause-number c = let there = c.loop-place.invariant.there (omega arith) in λ is. omega (arith, there, is)
-
 seen : (x : Attr) (ys : List Attr) → list_any (sought x) ys ≡ list_any (same_attribute nat_eq (attribute_of x)) (map attribute_of ys)
 seen x ys = sym (any-map attribute_of (sought x) (same_attribute nat_eq (attribute_of x)) (λ _. refl) ys)
 

@@ -1,4 +1,4 @@
-use Rattle.hopen.proofs.Names.{◌≡◌, ◌+◌, true, List, length, map, get_or, get_or_default, None, inl, inr, sym, ◌∙◌, ap, arith, cases_lt, length-map, is_hole_kind, slot_names, opened_by, KeptNode}
+use Rattle.hopen.proofs.Names.{◌≡◌, ◌+◌, true, length, map, get_or, None, inl, inr, sym, ◌∙◌, ap, arith, cases_lt, length-map, is_hole_kind, slot_names, opened_by, KeptNode}
 use Rattle.hopen.proofs.Held.{no-node}
 use Rattle.hopen.proofs.Projected.{name-hole, part-at}
 use Rattle.hopen.proofs.exchange.next_open.Goals as goal
@@ -23,11 +23,3 @@ loop-next-preserved c =
         | inr past ↦ let at : n ≡ m = omega arith in ap (λ k. get_or (slot_names (map opened_by items)) k 0) (sym at) ∙ name-hole items n x w.within is hole
       ];
     }
-
-pub returns-clause-live : goal.returns-clause-live
-returns-clause-live c = λ x at.
-    let items : List KeptNode = c.args.items.now in
-    let n = c.loop-next.next in
-    let y : KeptNode = c.index-items-next.result in
-    let same : x ≡ get_or items n y = at ∙ get_or_default items n x y c.loop-next.invariant.within in
-    ap (λ (z : KeptNode). is_hole_kind z.kind) same ∙ sym c.is_hole.ensures ∙ c.loop-next-test.false

@@ -1,15 +1,9 @@
 use Rattle.hopen.proofs.Names.{◌+◌, drop, ◌≡◌, ℕ, ◌<◌, List, Option, None, length, map, reverse, get_or, set, sym, ◌∙◌, ap, subst, arith, length-map, opened_by, somes, EndsOpen, OpenNode, gap, sum_by}
 use Rattle.hopen.proofs.ExchangedSlots.{drop-exchanged, drop-later, ends-exchanged, rest-exchanged}
-use Rattle.hopen.proofs.Held.{is-held}
 use Rattle.hopen.proofs.Passed.{sum-exchanged}
-use Rattle.hopen.proofs.Projected.{no-name, part-at}
+use Rattle.hopen.proofs.Projected.{no-name}
 use Rattle.hopen.proofs.Swapped.{exchanged-lower}
 use Rattle.hopen.proofs.exchange.sink.Goals as goal
-
-pub can_pass-requires-clause-upper : goal.can_pass-requires-clause-upper
-can_pass-requires-clause-upper c = λ x is.
-    let w = c.loop-index.invariant in
-    is-held x (λ e. c.requires.live (sym w.same ∙ part-at opened_by None c.loop-index.items c.loop-index.index x w.within is ∙ e))
 
 pub loop-index-preserved : goal.loop-index-preserved
 loop-index-preserved c =

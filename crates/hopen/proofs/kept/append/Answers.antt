@@ -1,16 +1,9 @@
-use Rattle.hopen.proofs.Names.{◌≡◌, ℕ, ◌+◌, List, Some, None, [], ◌∷◌, ◌++◌, length, map, take, get_or, get_or_append_left, get_or_push, reverse, subst, sym, ap, ◌∙◌, arith, take-append-le, length-map, map-append, length-append, sum_by, sum_by_push, gap, Rests, LevelsTo, LastLevels, opened_by, stack_of, somes, KeptNode, Open, open_of, IsBelow}
+use Rattle.hopen.proofs.Names.{[], ◌≡◌, ℕ, ◌+◌, List, Some, None, ◌∷◌, ◌++◌, length, map, take, get_or, get_or_append_left, get_or_push, reverse, subst, sym, ap, ◌∙◌, arith, take-append-le, length-map, map-append, length-append, sum_by, sum_by_push, gap, Rests, LevelsTo, LastLevels, opened_by, stack_of, somes, KeptNode, Open, open_of, IsBelow}
 use Rattle.hopen.proofs.Held.{below-held, some≢none}
 use Rattle.hopen.proofs.Standing.{below-front, levels-front, stack-more, stands-to, to-stands}
 use Rattle.hopen.proofs.Trimmed.{stack-holes}
 use Rattle.hopen.proofs.WrittenBack.{written_back}
 use Rattle.hopen.proofs.kept.append.Goals as goal
-
-pub enter-requires-clause-slot : goal.enter-requires-clause-slot
-enter-requires-clause-slot c =
-    let items : List KeptNode = c.args.items.now.items in
-    let x = c.slot_below-slot.result in
-    sym (ap (λ xs. get_or xs c.len-index.result x) (c.deref_mut.ensures.value ∙ c.in_ok-push.ensures.items)
-    ∙ get_or_push items x x c.len-index.result (omega arith))
 
 -- what is known of the lent slots is so of the vector's first ones
 below-of : (last : LastLevels) (items lent : List KeptNode) (n : ℕ) (new : Open) (x : KeptNode) → lent ≡ items → length items ≡ n

@@ -27,6 +27,3 @@ returns-clause-stands c =
     levels-alike (i + 1) next c.hint.new.items items c.hint.ensures (subst (λ n. LevelsTo n next items) down
     (levels-more items i (omega arith) last z c.requires.slot next (i + 1) up c.requires.below c.requires.room c.set.ensures.names c.set.ensures.nodes closes
     c.requires.stands))
-
-pub returns-clause-same : goal.returns-clause-same
-returns-clause-same c = c.hint.ensures.rest.opened

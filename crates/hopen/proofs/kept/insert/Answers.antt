@@ -1,4 +1,4 @@
-use Rattle.hopen.proofs.Names.{◌≡◌, ◌∷◌, ◌++◌, List, drop, ◌∙◌, sym, ap, subst, map, rules, take, take_at, take-map, drop-map, map-append, length-take-le, All-append, All-cons, All-drop, All-take, AreIn, IsIn, LevelsStand, LevelsTo, opened_by, KeptNode, insert, ℕ}
+use Rattle.hopen.proofs.Names.{◌≡◌, ◌∷◌, ◌++◌, List, drop, ◌∙◌, sym, ap, subst, map, rules, take, take_at, take-map, drop-map, map-append, length-take-le, All-append, All-cons, All-drop, All-take, AreIn, IsIn, LevelsTo, opened_by, KeptNode, insert, ℕ}
 use Rattle.hopen.proofs.Standing.{in-as-long, levels-front, stands-in}
 use Rattle.hopen.proofs.WrittenBack.{written_back}
 use Rattle.hopen.proofs.kept.insert.Goals as goal
@@ -12,11 +12,6 @@ returns-clause-items c =
     ap (map opened_by) (written_back c.rewind.new.items _ _ _ c.rewind.ensures.same c.deref_mut.ensures.value c.deref_mut.ensures.len)
     ∙ c.rewind.ensures.same ∙ ap (map opened_by) (c.deref_mut.ensures.value ∙ put)
     ∙ map-insert opened_by c.args.items.now.items c.args.index c.new.result ∙ ap (insert (map opened_by c.args.items.now.items) c.args.index) c.new.ensures
-
-pub returns-clause-stands : goal.returns-clause-stands
-returns-clause-stands c =
-    subst (LevelsStand c.rewind.new.last) (sym (written_back c.rewind.new.items _ _ _ c.rewind.ensures.same c.deref_mut.ensures.value c.deref_mut.ensures.len))
-    c.rewind.ensures.stands
 
 pub rewind-requires-clause-stands : goal.rewind-requires-clause-stands
 rewind-requires-clause-stands c =

@@ -1,4 +1,4 @@
-use Rattle.hopen.proofs.Names.{◌≡◌, suc, ◌+◌, List, map, get_or, set, refl, sym, ◌∙◌, ap, subst, arith, map-set, get_or_default, is_hole_kind, opened_by, CanGiveWay, IsIn, KeptNode}
+use Rattle.hopen.proofs.Names.{◌≡◌, suc, ◌+◌, List, map, get_or, set, refl, sym, ◌∙◌, ap, subst, arith, map-set, get_or_default, is_hole_kind, opened_by, CanGiveWay, KeptNode}
 use Rattle.hopen.proofs.Held.{held}
 use Rattle.hopen.proofs.Gone.{stands-renamed}
 use Rattle.hopen.proofs.kept.replace.Goals as goal
@@ -29,9 +29,3 @@ returns-then-can_give_way-clause-items c =
     let same : get_or items i c.index-items-index-2.result ≡ x = get_or_default items i c.index-items-index-2.result d c.requires.within in
     let live = ap (λ (y : KeptNode). is_hole_kind y.kind) (sym same) ∙ (c.can_give_way.ensures c.if-can_give_way.true).alone.live in
     map-set opened_by items i _ ∙ ap (set (map opened_by items) i) (held (record x { opened = c.args.new }) live)
-
-pub rewrite-requires-clause-slot_in : goal.rewrite-requires-clause-slot_in
-rewrite-requires-clause-slot_in c = subst (IsIn c.args.last.now) (sym c.new.ensures) c.requires.new_in
-
-pub returns-else-can_give_way-clause-items : goal.returns-else-can_give_way-clause-items
-returns-else-can_give_way-clause-items c = c.rewrite.ensures.items ∙ ap (set (map opened_by c.args.items.now) c.args.index) c.new.ensures

@@ -18,10 +18,3 @@ rewind-requires-clause-numbers c =
 
 pub returns-clause-items : goal.returns-clause-items
 returns-clause-items c = c.rewind.ensures.same ∙ map-set opened_by c.args.items.now c.args.index c.args.slot
-
-pub returns-clause-tables : goal.returns-clause-tables
-returns-clause-tables c = record {
-  names = c.rewind.ensures.tables.names ∙ c.unwind.ensures.tables.names;
-  nodes = c.rewind.ensures.tables.nodes ∙ c.unwind.ensures.tables.nodes;
-  holes = c.rewind.ensures.tables.holes ∙ c.unwind.ensures.tables.holes;
-}

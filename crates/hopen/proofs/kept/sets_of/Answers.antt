@@ -1,20 +1,6 @@
 use Rattle.hopen.proofs.Names.{◌≡◌, ◌≢◌, suc, ◌-◌, None, map, get_or, sym, ◌∙◌, ap, arith, length-map, get_or-map, opened_by, sets_at, set_node, nearest_up}
-use Rattle.hopen.proofs.Held.{held, no-node, opened-at, some≢none}
-use Rattle.hopen.proofs.NearestUp.{nearest-hole}
+use Rattle.hopen.proofs.Held.{held, opened-at, some≢none}
 use Rattle.hopen.proofs.kept.sets_of.Goals as goal
-
-pub loop-index-preserved : goal.loop-index-preserved
-loop-index-preserved c =
-    let items = c.args.items.now in
-    let i = c.loop-index.index in
-    let x = c.index-items-index.result in
-    let next : i ≡ suc (i - 1) = omega arith in
-    let gone : get_or (map opened_by items) (i - 1) None ≡ None = opened-at items (i - 1) x (omega arith)
-    ∙ no-node (get_or items (i - 1) x) (sym c.is_hole.ensures ∙ c.if-not-is_hole.false) in
-    record {
-      within = omega arith;
-      rest = λ set. c.loop-index.invariant.rest set ∙ ap (nearest_up set (map opened_by items)) next ∙ nearest-hole set (map opened_by items) (i - 1) gone;
-    }
 
 pub returns-then-not-is_hole : goal.returns-then-not-is_hole
 returns-then-not-is_hole c =
@@ -29,8 +15,3 @@ returns-then-not-is_hole c =
     ∙ ap (set_node set) (get_or-map sets_at items (i - 1) z z.sets (omega arith)))
     ∙ c.requires.keep set (i - 1) (omega (arith, c.loop-index.invariant.within)) live ∙ ap (nearest_up set (map opened_by items)) next
     ∙ sym (c.loop-index.invariant.rest set)
-
-pub returns : goal.returns
-returns c =
-    let none : c.loop-index.index ≡ 0 = omega arith in
-    λ set. c.none.ensures set ∙ sym (c.loop-index.invariant.rest set ∙ ap (nearest_up set (map opened_by c.args.items.now)) none)

@@ -41,9 +41,6 @@ enter-requires-clause-stands c =
     let x = c.slot_below-slot.result in
     levels-front i c.args.last.now (set items i x) items (take-set items i x) c.requires.stands
 
-pub enter-requires-clause-slot : goal.enter-requires-clause-slot
-enter-requires-clause-slot c = sym (get_or-set_same c.args.items.now c.args.index c.slot_below-slot.result c.slot_below-slot.result (omega arith))
-
 pub enter-requires-clause-below : goal.enter-requires-clause-below
 enter-requires-clause-below c =
     let items = c.args.items.now in

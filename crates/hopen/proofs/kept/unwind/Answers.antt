@@ -1,16 +1,8 @@
-use Rattle.hopen.proofs.Names.{◌≡◌, ℕ, None, suc, List, ◌-◌, ◌<◌, ◌∙◌, sym, refl, subst, arith, length, opened_by, KeptNode, LastLevels, LevelsTo}
+use Rattle.hopen.proofs.Names.{◌≡◌, ℕ, None, suc, List, ◌-◌, ◌<◌, ◌∙◌, sym, subst, arith, length, opened_by, KeptNode, LastLevels, LevelsTo}
 use Rattle.hopen.proofs.Held.{held, no-node}
 use Rattle.hopen.proofs.Projected.{part-at}
-use Rattle.hopen.proofs.Standing.{levels-counted, levels-hole, levels-in, levels-less, stands-to}
+use Rattle.hopen.proofs.Standing.{levels-counted, levels-hole, levels-in, levels-less}
 use Rattle.hopen.proofs.kept.unwind.Goals as goal
-
-pub loop-end-init : goal.loop-end-init
-loop-end-init c = record {
-  within = omega arith;
-  above = omega arith;
-  stands = stands-to c.args.last.now c.args.items.now c.requires.stands;
-  tables = record { names = refl; nodes = refl; holes = refl };
-}
 
 -- the slot that was the last
 slot-stands : (n : ℕ) (last : LastLevels) (items : List KeptNode) → 0 < n → LevelsTo n last items → LevelsTo (suc (n - 1)) last items
@@ -60,8 +52,3 @@ loop-end-preserved c =
           (part-at opened_by None items i x within c.index-items-end.is ∙ no-node x (sym c.is_hole.ensures ∙ c.if-not-is_hole.false));
       tables = c.loop-end.invariant.tables;
     }
-
-pub returns-clause-stands : goal.returns-clause-stands
-returns-clause-stands c =
-    let all : c.loop-end.end ≡ c.args.from = omega (arith, c.loop-end.invariant.above) in
-    subst (λ n. LevelsTo n c.loop-end.last c.args.items.now) all c.loop-end.invariant.stands

@@ -1,14 +1,7 @@
-use Rattle.hopen.proofs.Names.{◌≡◌, ◌-◌, map, set, get_or, sym, ◌∙◌, ap, subst, map-set, get_or_default, get_or-set_other, with_items_is, opened_by, same_name_of, same_node_of, sets_at, set_node, kept_kind_at, closing, is_hole_kind, KeptNode, IsAlone, IsLinked, slot_names}
-use Rattle.hopen.proofs.Gone.{kind-counted, node-known, stands-left}
+use Rattle.hopen.proofs.Names.{◌≡◌, ◌-◌, map, set, get_or, sym, ◌∙◌, ap, subst, map-set, get_or_default, get_or-set_other, with_items_is, opened_by, same_name_of, same_node_of, sets_at, set_node, kept_kind_at, closing, is_hole_kind, KeptNode, IsLinked, slot_names}
+use Rattle.hopen.proofs.Gone.{kind-counted, stands-left}
 use Rattle.hopen.proofs.Held.{no-node}
 use Rattle.hopen.proofs.leaving.leave.Goals as goal
-
-pub forget-requires-clause-node : goal.forget-requires-clause-node
-forget-requires-clause-node c =
-    let items = c.args.items.now in
-    let x : KeptNode = get_or items c.args.index c.index-items-index.result in
-    let is = get_or_default items c.args.index c.index-items-index.result x c.requires.within in
-    node-known c.args.last.now items c.args.index x c.requires.stands c.requires.within is (c.requires.alone x is)
 
 pub forget-requires-clause-counted : goal.forget-requires-clause-counted
 forget-requires-clause-counted c =
@@ -16,9 +9,6 @@ forget-requires-clause-counted c =
     let x : KeptNode = get_or items c.args.index c.index-items-index-2.result in
     let is = get_or_default items c.args.index c.index-items-index-2.result x c.requires.within in
     kind-counted c.args.last.now items c.args.index x c.requires.stands c.requires.within is (c.requires.alone x is)
-
-pub unlink_name-requires-clause-live : goal.unlink_name-requires-clause-live
-unlink_name-requires-clause-live c = λ x is. IsAlone.live (c.requires.alone x is)
 
 pub returns-clause-opened : goal.returns-clause-opened
 returns-clause-opened c =

@@ -1,4 +1,4 @@
-use Rattle.hopen.proofs.Names.{◌∙◌, arith}
+use Rattle.hopen.proofs.Names.{arith}
 use Rattle.hopen.proofs.Trimmed.{full-ends, stack-holes}
 use Rattle.hopen.proofs.leaving.pop.Goals as goal
 
@@ -11,6 +11,3 @@ returns-then-last-eq0-clause-rests c =
       holes = omega (arith, taken.holes, stack-holes c.take_last.new.items.items);
       levels = omega (arith, c.requires.levels, taken.len);
     }
-
-pub returns-clause-rest : goal.returns-clause-rest
-returns-clause-rest c = c.tidy.ensures.same ∙ c.in_ok-closed.ensures.rest

@@ -1,4 +1,4 @@
-use Rattle.hopen.proofs.Names.{◌≡◌, ◌∙◌, sym, ap, subst, arith, List, None, map, reverse, set, length-map, with_items, with_items_is, opened_by, somes, gap, sum_by, LevelsStand, KeptNode}
+use Rattle.hopen.proofs.Names.{◌≡◌, ◌∙◌, sym, ap, subst, arith, List, None, map, set, length-map, with_items, with_items_is, opened_by, gap, sum_by, LevelsStand, KeptNode}
 use Rattle.hopen.proofs.Trimmed.{holes-left, stack-holes}
 use Rattle.hopen.proofs.leaving.remove.Goals as goal
 
@@ -36,10 +36,3 @@ tidy-requires-clause-holes c =
       ap (sum_by gap) opened,
       (holes-left (map opened_by items) c.args.index (omega (arith, length-map items opened_by)) c.requires.live).0,
     )
-
-pub returns-clause-items : goal.returns-clause-items
-returns-clause-items c =
-    let back = with_items_is c.args.items.now c.make_hole.new.items (c.make_hole.auto.items ∙ c.deref_mut.ensures.len) in
-    c.tidy.ensures.same
-    ∙ ap (λ ys. somes (reverse ys)) (ap (map opened_by) back ∙ c.make_hole.ensures.opened
-    ∙ ap (λ (xs : List KeptNode). set (map opened_by xs) c.args.index None) c.deref_mut.ensures.value)

@@ -1,6 +1,6 @@
-use Rattle.hopen.proofs.Names.{◌≡◌, ◌+◌, ◌<◌, suc, ◌∷◌, ◌++◌, [], Some, List, length, map, drop, get_or, get_or_push, refl, sym, ap, ◌∙◌, subst, arith, length-append, map-append, take-append-le, sum_by, sum_by_push, gap, opened_by, open_of, stack_of, EndsOpen, LevelsStand, LevelsTo, KeptNode, LastLevels, current}
+use Rattle.hopen.proofs.Names.{[], ◌≡◌, ◌+◌, ◌<◌, suc, ◌∷◌, ◌++◌, Some, List, length, map, drop, get_or, get_or_push, refl, sym, ap, ◌∙◌, subst, arith, length-append, map-append, take-append-le, sum_by, sum_by_push, gap, opened_by, open_of, stack_of, EndsOpen, LevelsStand, LevelsTo, KeptNode, LastLevels, current}
 use Rattle.hopen.proofs.Held.{held}
-use Rattle.hopen.proofs.Standing.{levels-counted, levels-front, levels-in, levels-less, stack-more, stands-to, to-stands}
+use Rattle.hopen.proofs.Standing.{levels-front, levels-in, levels-less, stack-more, stands-to, to-stands}
 use Rattle.hopen.proofs.Trimmed.{ends-live, stack-holes}
 use Rattle.hopen.proofs.leaving.take_last.Goals as goal
 
@@ -32,16 +32,6 @@ take_back-requires-clause-room c =
     let is = c.in_ok-item.ensures.items in
     let last = c.args.last.now in
     levels-in (left ++ x ∷ []) (length left) (within items left x is last c.requires.stands) last x (here items left x is last c.requires.stands)
-    (whole items left x is last c.requires.stands) (popped items left x is c.requires.ends).0
-
-pub take_back-requires-clause-counted : goal.take_back-requires-clause-counted
-take_back-requires-clause-counted c =
-    let items = c.args.items.now.items in
-    let left = c.pop.new.self.items in
-    let x = c.in_ok-item.item in
-    let is = c.in_ok-item.ensures.items in
-    let last = c.args.last.now in
-    levels-counted (left ++ x ∷ []) (length left) (within items left x is last c.requires.stands) last x (here items left x is last c.requires.stands)
     (whole items left x is last c.requires.stands) (popped items left x is c.requires.ends).0
 
 pub returns-clause-stands : goal.returns-clause-stands

@@ -2,13 +2,6 @@ use Rattle.hopen.proofs.Names.{◌≡◌, ◌-◌, ◌<◌, List, None, length, 
 use Rattle.hopen.proofs.Trimmed.{holes-trimmed, stack-holes, stack-trimmed, stands-trimmed}
 use Rattle.hopen.proofs.leaving.trim.Goals as goal
 
-pub overflow_sub-last : goal.overflow_sub-last
-overflow_sub-last c =
-    let items = c.loop-items.items.items in
-    let h = subst (λ (xs : List KeptNode). (0 < length xs) × (get_or (map opened_by xs) (length xs - 1) None ≡ None)) c.deref.ensures.value
-    (c.ends_in_hole.ensures.hole c.loop-items-test.true) in
-    omega (arith, holes-trimmed items h.0 h.1, c.loop-items.invariant.holes)
-
 pub loop-items-preserved : goal.loop-items-preserved
 loop-items-preserved c =
     let items = c.loop-items.items.items in

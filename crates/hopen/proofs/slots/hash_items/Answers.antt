@@ -1,4 +1,4 @@
-use Rattle.hopen.proofs.Names.{◌≡◌, ℕ, suc, ◌+◌, ◌<◌, ◌++◌, ◌∷◌, [], List, length, take, get_or, set, subst, refl, sym, ◌∙◌, ap, arith, length-append, length-map, length-take-le, map-append, ne_eqb, All-get_or, none, EntryOf, IsStored, item_of, nowhere, by_hash, number_by, numbers_by, Stored, set-append_seam, token_hash, take-more}
+use Rattle.hopen.proofs.Names.{[], ◌≡◌, ℕ, suc, ◌+◌, ◌<◌, ◌++◌, ◌∷◌, List, length, take, get_or, set, subst, refl, sym, ◌∙◌, ap, arith, length-map, length-take-le, map-append, ne_eqb, All-get_or, none, EntryOf, IsStored, item_of, nowhere, by_hash, number_by, numbers_by, Stored, set-append_seam, token_hash, take-more}
 use Rattle.hopen.proofs.slots.hash_items.Goals as goal
 use Rattle.hopen.proofs.slots.hash_items.Goals.{in-Entry+in_ok-find_hash-in-Entry+in_ok-push-in-Entry, in-Marker+in_ok-push-in-Marker, in-Hole+in_ok-push-in-Hole}
 
@@ -39,8 +39,3 @@ loop-index-preserved c =
           ∙ ap (λ k. set (c.loop-index.hashes ++ 0 ∷ []) k none) (sym (size (by_hash keys) items i c.loop-index.hashes c.loop-index-test.true before))
           ∙ set-append_seam c.loop-index.hashes 0 [] none ∙ pushed none (ap (λ y. number_by (by_hash keys) (item_of y)) (sym w.in-Hole.is))
     ]
-
-pub clear-requires : goal.clear-requires
-clear-requires c =
-    let kept = size (by_hash c.args.keys) c.args.items.now c.loop-index.index c.loop-index.hashes c.loop-index-test.true c.loop-index.invariant in
-    omega (arith, ap length c.in_ok-push-in-Hole.ensures.ok, length-append c.loop-index.hashes (0 ∷ []), kept)

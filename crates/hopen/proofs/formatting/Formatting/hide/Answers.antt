@@ -25,14 +25,6 @@ returns-then-place-eq0-clause-entry c =
     sym c.self.view_is ∙ ap live (sym (no_words (is_entry c.args.node) (listed_items items) none).without_is)
     ∙ sym (without1-live c.args.node (listed_items items) slots (omega arith)) ∙ ap (without (is_entry c.args.node)) c.self.view_is
 
-pub hide-requires-clause-within : goal.hide-requires-clause-within
-hide-requires-clause-within c = omega (
-  arith,
-  c.if-place-eq0.false,
-  placed-within c.args.node c.node_number.result c.last-place.result c.self.inside.slots
-      c.self.invariant c.node_number.ensures c.last-place.ensures,
-)
-
 pub truncate-requires-clause-within : goal.truncate-requires-clause-within
 truncate-requires-clause-within c = omega (
   arith,

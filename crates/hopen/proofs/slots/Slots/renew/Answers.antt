@@ -1,7 +1,6 @@
 use Rattle.hopen.proofs.Names.{◌≡◌, suc, get_or, set, refl, ◌∙◌, ap, arith, get_or_read, listed_items, moved_entry}
 use Rattle.hopen.specs.declared.entry.Slot.TheVariants as stored
 use Rattle.hopen.proofs.Moved.{listed-renewed, renewed-items}
-use Rattle.hopen.proofs.Slotted.{freed, freed-within}
 use Rattle.hopen.proofs.slots.Slots.renew.Goals as goal
 
 pub returns-clause-listed : goal.returns-clause-listed
@@ -21,10 +20,3 @@ returns-clause-items c =
     c.index_mut.ensures.value stored.Hole in
     ap (λ x. listed_items (set items c.args.index x)) (c.set_node.ensures ∙ ap (moved_entry c.args.node) read)
     ∙ renewed-items c.args.node items c.args.index c.requires.within c.requires.entry
-
-pub set-requires-clause-within : goal.set-requires-clause-within
-set-requires-clause-within c = freed-within c.args.self.now.items.items c.args.self.now.nodes _ c.args.index c.requires.listed.nodes c.requires.within _
-    c.clear.ensures
-
-pub set-requires-clause-free : goal.set-requires-clause-free
-set-requires-clause-free c = freed c.args.self.now.items.items c.args.self.now.nodes _ c.args.index c.requires.listed.nodes c.requires.within _ c.clear.ensures
