@@ -1,5 +1,5 @@
 -- Vectors of items with holes, and where the entry of a node is in them.
-use Rattle.hopen.proofs.Names.{◌≡◌, if◌then◌else◌, ℕ, zero, suc, ◌+◌, ◌-◌, ◌<◌, ◌≤◌, eqb, Bool, true, false, cond, not, List, [], ◌∷◌, ◌++◌, Option, Some, None, is_some, length, map, filter, take, take-suc, drop, get_or, refl, sym, ◌∙◌, ap, subst, arith, All, position, position_or_len, list_any, slice_get, find, option_and_then, option_map, eqb-zero-suc, append-nil, get_or-map, length-append, length-map, All-drop, All-take, filter-append, EntryOf, Listed, marker, entry, as_entry, entry_of, for_node, is_entry, nth_live, AreSlots, IsSlot, IsStored, hole, is_gone, is_listed_hole, item_of, listed_items, live, nowhere, stored_entry, by_node, number_by, unless_hole, changed_at, Stored, is_some-position, slice_get_nearest, common_steps, nat_tests, lt-ltb, drop_at, take-append-drop, take_at, AreSlotsListed, Slots, ◌==◌, reverse, last_up, get_nearest, reverse_split, ltb, ltb-true, eqb-true, up-found, up-within, take-map}
+use Rattle.hopen.proofs.Names.{last_place, position-some, ◌≡◌, if◌then◌else◌, ℕ, zero, suc, ◌+◌, ◌-◌, ◌<◌, ◌≤◌, eqb, Bool, true, false, cond, not, List, [], ◌∷◌, ◌++◌, Option, Some, None, is_some, length, map, filter, take, take-suc, drop, get_or, refl, sym, ◌∙◌, ap, subst, arith, All, position, list_any, slice_get, find, option_and_then, option_map, eqb-zero-suc, append-nil, get_or-map, length-append, length-map, All-drop, All-take, filter-append, EntryOf, Listed, marker, entry, as_entry, entry_of, for_node, is_entry, nth_live, AreSlots, IsSlot, IsStored, hole, is_gone, is_listed_hole, item_of, listed_items, live, nowhere, stored_entry, by_node, number_by, unless_hole, changed_at, Stored, is_some-position, slice_get_nearest, common_steps, nat_tests, drop_at, take-append-drop, take_at, AreSlotsListed, Slots, ◌==◌, reverse, last_up, get_nearest, reverse_split, ltb, ltb-true, eqb-true, up-found, up-within, take-map}
 use Rattle.hopen.specs.declared.entry.Slot.TheVariants as stored
 use Rattle.hopen.proofs.ByHash.{last-at, number-at}
 use Rattle.hopen.proofs.ItemLists.{along_last, items_of_more, length-items_of}
@@ -123,15 +123,23 @@ entry_of-is node [] = refl
 entry_of-is node (marker ∷ items) = entry_of-is node items
 entry_of-is node (entry e ∷ items) = grind (arith, entry_of-is node items)
 
+-- one is somewhere where it has a place
+any-place : {X : Type 0} (s : X → Bool) (xs : List X) → ltb 0 (last_place s xs) ≡ list_any s xs
+any-place s [] = refl
+any-place s (x ∷ xs) = grind (arith, any-place s xs, nat_tests)
+
 module _ (node : ℕ) (low : node < nowhere) where
   node-same : (e : EntryOf ℕ) (v : Bool) → IsSlot (entry e) → eqb e.node node ≡ v → eqb (suc (by_node e)) (suc (suc node)) ≡ v
   node-same e v slot same = grind (arith, number-same, nat_tests)
 
+  pub node-is : (items : List (Listed ℕ)) → AreSlots items → node_place node items ≡ last_place (is_entry node) items
+  node-is [] slots = refl
+  node-is (marker ∷ items) slots = rw (eqb-zero-suc (suc node)) (node-is items slots.1)
+  node-is (entry e ∷ items) slots = grind (arith, node-is items slots.1, node-same, length-map)
+
   -- whether it has one
   pub node-any : (items : List (Listed ℕ)) → AreSlots items → ltb 0 (node_place node items) ≡ list_any (is_entry node) items
-  node-any [] slots = refl
-  node-any (marker ∷ items) slots = rw (eqb-zero-suc (suc node)) (node-any items slots.1)
-  node-any (entry e ∷ items) slots = grind (arith, node-any items slots.1, node-same)
+  node-any items slots = ap (ltb 0) (node-is items slots) ∙ any-place (is_entry node) items
 
   pub node-none : (items : List (Listed ℕ)) → AreSlots items → node_place node items ≡ 0 → list_any (is_entry node) items ≡ false
   node-none items slots is = sym (node-any items slots) ∙ ap (ltb 0) is
@@ -139,29 +147,12 @@ module _ (node : ℕ) (low : node < nowhere) where
   pub node-some : (items : List (Listed ℕ)) → AreSlots items → list_any (is_entry node) items ≡ true → 0 < node_place node items
   node-some items slots there = ltb-true 0 (node_place node items) (node-any items slots ∙ there)
 
-  node-first : (items : List (Listed ℕ)) → AreSlots items → 0 < node_place node items
-      → position_or_len (is_entry node) items ≡ length items - node_place node items
-  node-first [] slots some = absurd (omega arith)
-  node-first (marker ∷ items) slots some =
-      let there : 0 < node_place node items = rw (eqb-zero-suc (suc node)) at some in
-      rw (eqb-zero-suc (suc node)) (omega (arith, node-first items slots.1 there, place-le by_node (suc (suc node)) items))
-  node-first (entry e ∷ items) slots some = go (eqb e.node node) refl some (node-first items slots.1)
-    where
-      go : (v : Bool) → eqb e.node node ≡ v → 0 < cond (eqb (suc (by_node e)) (suc (suc node))) (suc (length (map (number_by by_node) items)))
-          (node_place node items)
-          → (0 < node_place node items → position_or_len (is_entry node) items ≡ length items - node_place node items)
-          → cond (not v) (1 + position_or_len (is_entry node) items) 0 ≡ suc (length items) - cond (eqb (suc (by_node e)) (suc (suc node)))
-          (suc (length (map (number_by by_node) items))) (node_place node items)
-      go true same some rest = rw (node-same e true slots.0 same) (omega (arith, length-map items (number_by by_node)))
-      go false same some rest =
-          let there : 0 < node_place node items = rw (node-same e false slots.0 same) at some in
-          rw (node-same e false slots.0 same) (omega (arith, rest there, place-le by_node (suc (suc node)) items))
-
   pub node-at : (items : List (Listed ℕ)) → AreSlots items → 0 < node_place node items
       → position (is_entry node) items ≡ Some (length items - node_place node items)
   node-at items slots some =
-      let first = node-first items slots some in
-      rw (lt-ltb (position_or_len (is_entry node) items) (length items) (omega (arith, place-le by_node (suc (suc node)) items))) (ap (λ k. Some k) first)
+      let p = node_place node items in
+      let up : length items - 1 - (p - 1) ≡ length items - p = omega arith in
+      position-some (is_entry node) items (p - 1) (sym (node-is items slots) ∙ omega arith) ∙ ap (λ k. Some k) up
 
 -- whether it has one before its last one, as the numbers of the nodes tell it
 module _ (node number p q : ℕ) (low : node < nowhere) (s : Slots) (l : AreSlotsListed s) (e : number ≡ suc (suc node))

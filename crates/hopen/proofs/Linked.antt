@@ -1,12 +1,9 @@
 -- A table of the levels where numbers are last, and what the members of their list keep, as members come and go.
-use Rattle.hopen.proofs.Names.{◌≡◌, ◌≢◌, ℕ, zero, suc, ◌<◌, ◌≤◌, eqb, Bool, true, false, cond, List, [], ◌∷◌, length, map, reverse, get_or, set, inl, inr, refl, sym, ◌∙◌, ap, subst, arith, cases_Bool, cases_eq, cases_lt, eqb-true, eqb-false, eqb-suc-zero, eqb-zero-suc, get_or-set_same, get_or-set_other, get_or_past, length-map, last_up, last_place, last_same, up-sought, up-other, up-alike, IsLinked, IsLinkedTo, nat_tests, reverse-map}
+use Rattle.hopen.proofs.Names.{eq-eqb, ne_eqb, ◌≡◌, ◌≢◌, ℕ, zero, suc, ◌<◌, ◌≤◌, eqb, Bool, true, cond, List, [], ◌∷◌, length, map, reverse, get_or, set, inl, inr, refl, sym, ◌∙◌, ap, subst, arith, cases_Bool, cases_eq, cases_lt, eqb-suc-zero, eqb-zero-suc, get_or-set_same, get_or-set_other, get_or_past, length-map, last_up, last_place, last_same, up-sought, up-other, up-alike, IsLinked, IsLinkedTo, nat_tests, reverse-map}
 use Rattle.hopen.proofs.IndexSteps.{last-is}
 
 pub eqb-same : (n : ℕ) → eqb n n ≡ true
-eqb-same n = elim (cases_Bool (eqb n n)) [ inl e ↦ e | inr e ↦ absurd (eqb-false n n e refl) ]
-
-pub eqb-not : (n k : ℕ) → n ≢ k → eqb n k ≡ false
-eqb-not n k ne = elim (cases_Bool (eqb n k)) [ inl e ↦ absurd (ne (eqb-true n k e)) | inr e ↦ e ]
+eqb-same n = eq-eqb n n refl
 
 -- what holds at an index, and of all others, is so of all
 pub either : (P : ℕ → Type 0) (i m : ℕ) → P i → (m ≢ i → P m) → P m
@@ -81,7 +78,7 @@ module _ (t ns bs : List ℕ) (n : ℕ) where
     up-here = up-sought (numbered a) ns n (ap (numbered a) member ∙ eqb-same (suc a))
 
     up-apart : (k : ℕ) → k ≢ a → last_up (numbered k) ns (suc n) ≡ last_up (numbered k) ns n
-    up-apart k ne = up-other (numbered k) ns n (ap (numbered k) member ∙ eqb-not (suc a) (suc k) (λ e. ne (omega arith)))
+    up-apart k ne = up-other (numbered k) ns n (ap (numbered k) member ∙ ne_eqb (suc a) (suc k) (λ e. ne (omega arith)))
 
     pub linked-more : a < length t → get_or bs n 0 ≡ get_or t a 0 → IsLinkedTo n t ns bs → IsLinkedTo (suc n) (set t a (suc n)) ns bs
     linked-more within is l = record {
@@ -103,7 +100,7 @@ module _ (t ns bs : List ℕ) (n : ℕ) where
       }
 
 -- the same in the words of the nearest first
-pub place-map : {X : Type 0} (f : X → ℕ) (s : ℕ → Bool) (xs : List X) → last_place s (map f xs) ≡ last_place (λ x. s (f x)) xs
+pub place-map : {X Y : Type 0} (f : X → Y) (s : Y → Bool) (xs : List X) → last_place s (map f xs) ≡ last_place (λ x. s (f x)) xs
 place-map f s [] = refl
 place-map f s (x ∷ xs) = λ i. cond (s (f x)) (suc (length-map xs f i)) (place-map f s xs i)
 

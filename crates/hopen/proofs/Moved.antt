@@ -1,10 +1,13 @@
 -- Exchanges in a list and what a run of them does; an entry that becomes that of another node, and where an entry
 -- is among the others.
-use Rattle.hopen.proofs.Names.{◌≡◌, ◌≢◌, ℕ, zero, suc, ◌+◌, ◌-◌, ◌<◌, ◌≤◌, ◌==◌, ◌⊎◌, inl, Bool, true, false, IsTrue, cond, eqb, List, [], ◌∷◌, ◌++◌, Option, Some, is_some, length, get_or, set, take, drop, map, reverse, refl, sym, ◌∙◌, ap, arith, subst, All, insert, list_any, position, remove, swap, swap_is, length-swap, eqb-zero-suc, append_assoc, drop-set-lt, get_or-map, get_or-reverse, get_or-set_other, length-append, length-map, length-reverse, length-set, length-take-le, map-set, reverse-append, All-get_or, All-head, All-set, All-tail, last_up, none, EntryOf, for_node, is_entry, IsStored, entry_is, is_gone, item_of, listed_items, nowhere, moved_entry, stored_entry, DefaultHasher, AreSlotsListed, by_hash, by_name, by_node, number_by, numbers_by, changed_at, item_put_before, last_place, Stored, Slots, reverse-map, set_nearest, last_place-le, nat_tests, get_or-set_same, set-get_or, set-set, set_split, take-set, insert_nearest, position_nearest, position-none, position-some}
+use Rattle.hopen.proofs.Names.{map-set_same, ◌≡◌, ◌≢◌, ℕ, zero, suc, ◌+◌, ◌-◌, ◌<◌, ◌≤◌, ◌==◌, ◌⊎◌, inl, Bool, true, false, IsTrue, List, [], ◌∷◌, ◌++◌, Option, Some, is_some, length, get_or, set, take, drop, map, reverse, refl, sym, ◌∙◌, ap, arith, subst, All, insert, list_any, position, remove, swap, swap_is, length-swap, drop-set-lt, get_or-map, get_or-set_other, length-append, length-reverse, length-set, length-take-le, map-set, reverse-append, All-get_or, All-set, last_up, none, EntryOf, for_node, is_entry, IsStored, is_gone, item_of, listed_items, nowhere, moved_entry, stored_entry, DefaultHasher, AreSlotsListed, by_hash, by_name, by_node, number_by, numbers_by, changed_at, item_put_before, last_place, Stored, Slots, reverse-map, set_nearest, last_place-le, nat_tests, get_or-set_same, set-set, take-set, insert_nearest, position_nearest, position-none, position-some}
 use Rattle.hopen.specs.declared.entry.Slot.TheVariants as stored
-use Rattle.hopen.proofs.IndexSteps.{last-is}
+use Rattle.hopen.proofs.ExchangedSlots.{reverse-set}
+use Rattle.hopen.proofs.Holes.{node-is, slots-are}
+use Rattle.hopen.proofs.IndexSteps.{last-is, last_of}
 use Rattle.hopen.proofs.ItemLists.{not_missing}
-use Rattle.hopen.proofs.Listed.{number-same}
+use Rattle.hopen.proofs.Linked.{place-map}
+use Rattle.hopen.proofs.Listed.{numbers-back}
 
 -- the members at two indexes in each other's place
 abbrev pub exchanged : {X : Type 0} → List X → (i j : ℕ) → X → List X
@@ -99,10 +102,6 @@ module _ (node : ℕ) where
   pub renamed-item : (x : Stored) → is_some (stored_entry x) ≡ true → item_of (moved_entry node x) ≡ for_node node (item_of x)
   renamed-item x some = grind arith
 
-  -- a write that leaves what a member is seen as
-  map-set_same : {X Y : Type 0} (f : X → Y) (xs : List X) (i : ℕ) (d y : X) → i < length xs → f y ≡ f (get_or xs i d) → map f (set xs i y) ≡ map f xs
-  map-set_same f xs i d y h same = map-set f xs i y ∙ ap (set (map f xs) i) (same ∙ sym (get_or-map f xs i d (f d) h)) ∙ set-get_or (map f xs) i (f d)
-
   module _ (items : List Stored) (i : ℕ) (h : i < length items) (some : is_some (stored_entry (get_or items i stored.Hole)) ≡ true) where
     abbrev there : Stored
     there = get_or items i stored.Hole
@@ -111,7 +110,7 @@ module _ (node : ℕ) where
     now = set items i (moved_entry node there)
 
     same-by : {Y : Type 0} (f : Stored → Y) → f (moved_entry node there) ≡ f there → map f now ≡ map f items
-    same-by f same = map-set_same f items i stored.Hole (moved_entry node there) h same
+    same-by f same = map-set_same f items i (moved_entry node there) stored.Hole same
 
     renewed-solid : (solid : ℕ) → NoHoleFrom solid items → NoHoleFrom solid now
     renewed-solid solid all k from l x =
@@ -158,12 +157,6 @@ module _ {X : Type 0} (sought : X → Bool) where
   around [] far x other = inl (rw other refl, last_place-le sought far)
   around (y ∷ near) far x other = grind (arith, around near far x other, length-append)
 
-  reverse-set : (xs : List X) (i : ℕ) (d : X) → i < length xs → reverse (set xs i d) ≡ reverse (drop (suc i) xs) ++ d ∷ reverse (take i xs)
-  reverse-set xs i d h =
-      ap reverse (set_split xs i d h) ∙ reverse-append (take i xs) (d ∷ drop (suc i) xs)
-      ∙ ap (λ l. l ++ reverse (take i xs)) (reverse-append (d ∷ []) (drop (suc i) xs))
-      ∙ append_assoc (reverse (drop (suc i) xs)) (d ∷ []) (reverse (take i xs))
-
   -- the place without the member at an index, from that in a list where one that is not sought is there
   pub record IsPlaceWithout (xs : List X) (i place : ℕ) : Type 0 where
     pub below : place ≤ i → place ≡ last_place sought (reverse (remove xs i))
@@ -181,31 +174,16 @@ module _ (mark : ℕ) (low : mark < nowhere) where
   pub no-hole : is_mark stored.Hole ≡ false
   no-hole = grind (arith, nat_tests)
 
-  node-same : (x : Stored) → IsStored x → eqb (number_by by_node (item_of x)) (suc (suc mark)) ≡ is_mark x
-  node-same stored.Hole is = number-same (λ e. e.node) mark (record { node = nowhere; name = nowhere; attrs = [] }) (eqb nowhere mark) (λ _. no-hole) refl
-  node-same stored.Marker is = eqb-zero-suc (suc mark)
-  node-same (stored.Entry e) is = number-same (λ x. x.node) mark (entry_is e) (eqb e.node mark) (λ gone. absurd (omega (arith, gone, is.1))) refl
-
-  place-node : (xs : List Stored) → All IsStored xs → last_place (λ k. k == suc (suc mark)) (map (λ x. number_by by_node (item_of x)) xs)
-      ≡ last_place is_mark xs
-  place-node [] all = refl
-  place-node (x ∷ xs) all = λ k. cond (node-same x (All-head IsStored x xs all) k) (suc (length-map xs (λ y. number_by by_node (item_of y)) k))
-      (place-node xs (All-tail IsStored x xs all) k)
-
-  All-turned : (xs : List Stored) → All IsStored xs → All IsStored (reverse xs)
-  All-turned xs all k d l = let h : k < length xs = omega (arith, length-reverse xs) in
-      subst IsStored (sym (get_or-reverse xs k d h)) (all (length xs - 1 - k) d (omega arith))
-
   -- what the numbers say, where that at an index is cleared
   pub mark-place : (xs : List Stored) (ns : List ℕ) (i place : ℕ) → i < length xs → All IsStored xs → ns ≡ numbers_by by_node xs
       → place ≡ last_up (λ k. k == suc (suc mark)) (set ns i none) (length (set ns i none)) → IsPlaceWithout is_mark xs i place
   mark-place xs ns i place h all are is =
-      let cleared : set ns i none ≡ numbers_by by_node (set xs i stored.Hole) = ap (λ l. set l i none) are
-      ∙ sym (map-set (λ x. number_by by_node (item_of x)) xs i stored.Hole) in
+      let ys = set xs i stored.Hole in
+      let cleared : set ns i none ≡ numbers_by by_node ys = ap (λ l. set l i none) are ∙ sym (map-set (λ x. number_by by_node (item_of x)) xs i stored.Hole) in
       place-without is_mark xs i place stored.Hole h no-hole
-      (is ∙ ap (λ l. last_up (λ k. k == suc (suc mark)) l (length l)) cleared ∙ last-is (suc (suc mark)) (numbers_by by_node (set xs i stored.Hole))
-      ∙ ap (last_place (λ k. k == suc (suc mark))) (reverse-map (λ x. number_by by_node (item_of x)) (set xs i stored.Hole))
-      ∙ place-node (reverse (set xs i stored.Hole)) (All-turned (set xs i stored.Hole) (All-set IsStored xs i stored.Hole tt all)))
+      (is ∙ ap (λ l. last_up (λ k. k == suc (suc mark)) l (length l)) cleared ∙ last-is (suc (suc mark)) (numbers_by by_node ys)
+      ∙ ap (last_of (suc (suc mark))) (numbers-back by_node ys) ∙ node-is mark low (listed_items ys) (slots-are ys (All-set IsStored xs i stored.Hole tt all))
+      ∙ ap (last_place (is_entry mark)) (reverse-map item_of ys) ∙ place-map item_of (is_entry mark) (reverse ys))
 
 -- an item that is put right after the entry of the mark
 pub insert-after : (mark : ℕ) (rest : List Stored) (y : Stored) (to : ℕ) → to ≡ last_place (λ x. is_entry mark (item_of x)) (reverse rest)

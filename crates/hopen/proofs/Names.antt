@@ -48,7 +48,7 @@ pub use Rattle.std.proofs.Math.Bool.{or-false}
 pub use Rattle.std.proofs.Math.Dec.{eqb-suc-zero, eqb-zero-suc}
 pub use Rattle.std.proofs.Math.Path.{transport}
 pub use Rattle.std.proofs.Math.Seq.{map-set_same, take-append_seam, drop-length, drop-nil, set-append_seam}
-pub use Rattle.std.proofs.lemmas.Bool.{cases_lt, cases_eq, eqb-true, eqb-false, cases_Bool, lt-ltb, le-ltb, not-true, ne_eqb, ltb-true, false≢true, le-leb, lt-leb, ltb-false}
+pub use Rattle.std.proofs.lemmas.Bool.{cases_lt, cases_eq, eqb-true, eqb-false, cases_Bool, lt-ltb, le-ltb, not-true, ne_eqb, eq-eqb, ltb-true, false≢true, le-leb, lt-leb, ltb-false}
 pub use Rattle.std.proofs.lemmas.Bool.Decides.{nat_tests}
 pub use Rattle.std.proofs.lemmas.Cmp.{nat_cmp_total}
 pub use Rattle.std.proofs.lemmas.Grind.{common_steps}

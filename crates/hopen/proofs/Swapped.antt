@@ -1,7 +1,7 @@
 -- Members of a list that change places, leave or give way, and the levels that are kept of them.
-use Rattle.hopen.proofs.Names.{◌≡◌, ◌≢◌, ℕ, zero, suc, ◌-◌, ◌<◌, ◌≤◌, eqb, Bool, true, false, cond, ◌&&◌, List, length, map, get_or, set, ◌⊎◌, inl, inr, refl, sym, ◌∙◌, ap, subst, arith, cases_Bool, cases_eq, cases_lt, eqb-true, eqb-false, eqb-zero-suc, get_or-set_same, get_or-set_other, get_or_past, length-set, map-set, set-get_or, set-set, last_up, last_same, up-sought, up-other, up-within, up-found, up-least, up-past, up-alike, IsHeldLevel, IsLinked, AreHoles, exchanged, level_exchanged, nat_tests}
+use Rattle.hopen.proofs.Names.{ne_eqb, ◌≡◌, ◌≢◌, ℕ, zero, suc, ◌-◌, ◌<◌, ◌≤◌, eqb, Bool, true, false, cond, ◌&&◌, List, length, map, get_or, set, ◌⊎◌, inl, inr, refl, sym, ◌∙◌, ap, subst, arith, cases_Bool, cases_eq, cases_lt, eqb-true, eqb-false, eqb-zero-suc, get_or-set_same, get_or-set_other, get_or_past, length-set, map-set, set-get_or, set-set, last_up, last_same, up-sought, up-other, up-within, up-found, up-least, up-past, up-alike, IsHeldLevel, IsLinked, AreHoles, exchanged, level_exchanged, nat_tests}
 use Rattle.std.proofs.Math.ListN.{get_or-map}
-use Rattle.hopen.proofs.Linked.{either, eqb-same, eqb-not, get-set, numbered, same-from, same-hole, same-member, kept-hole, kept-member}
+use Rattle.hopen.proofs.Linked.{either, eqb-same, get-set, numbered, same-from, same-hole, same-member, kept-hole, kept-member}
 
 -- where a level goes
 module _ (i j p : ℕ) where
@@ -19,7 +19,7 @@ abbrev pub level_left : ℕ → ℕ → ℕ → ℕ
 level_left i b p = cond (eqb p (suc i)) b p
 
 left-other : (i b p : ℕ) → p ≢ suc i → level_left i b p ≡ p
-left-other i b p ne = ap (λ v. cond v b p) (eqb-not p (suc i) ne)
+left-other i b p ne = ap (λ v. cond v b p) (ne_eqb p (suc i) ne)
 
 -- both tests pass
 and-true : (v w : Bool) → (v && w) ≡ true → (v ≡ true) × (w ≡ true)
@@ -210,7 +210,7 @@ module _ (t ns bs : List ℕ) (l : IsLinked t ns bs) (i j a b : ℕ) (less : i <
 
   -- where a number is last
   one-of : (k : ℕ) → numbered k (get_or ns i 0) ≡ true → numbered k (get_or ns j 0) ≡ false
-  one-of k e = eqb-not (get_or ns j 0) (suc k) (λ f. let g : get_or ns i 0 ≡ suc k = eqb-true _ (suc k) e in differ (omega arith))
+  one-of k e = ne_eqb (get_or ns j 0) (suc k) (λ f. let g : get_or ns i 0 ≡ suc k = eqb-true _ (suc k) e in differ (omega arith))
 
   swapped : (k n : ℕ) → j < n → last_up (numbered k) after n ≡ level_exchanged i j (last_up (numbered k) ns n)
   swapped k n h = up-swapped (numbered k) (eqb-zero-suc k) i j ns less within holes (one-of k) n h
@@ -222,13 +222,13 @@ module _ (t ns bs : List ℕ) (l : IsLinked t ns bs) (i j a b : ℕ) (less : i <
   upper-keeps : get_or cs i 0 ≡ last_same after i
   upper-keeps =
       upper ∙ kept-member t ns bs l j within b second ∙ up-holes (numbered b) (eqb-zero-suc b) i j ns less within holes
-      ∙ up-other (numbered b) ns i (eqb-not (get_or ns i 0) (suc b) (λ e. differ (omega arith))) ∙ sym (before b i (omega arith))
+      ∙ up-other (numbered b) ns i (ne_eqb (get_or ns i 0) (suc b) (λ e. differ (omega arith))) ∙ sym (before b i (omega arith))
       ∙ sym (same-member after i b (exchanged-upper i j 0 ns less within ∙ second))
 
   lower-keeps : get_or cs j 0 ≡ last_same after j
   lower-keeps =
       lower ∙ kept-member t ns bs l i (omega arith) a first ∙ sym (before a i (omega arith))
-      ∙ sym (up-other (numbered a) after i (eqb-not (get_or after i 0) (suc a) (λ e. differ (omega (arith, exchanged-upper i j 0 ns less within)))))
+      ∙ sym (up-other (numbered a) after i (ne_eqb (get_or after i 0) (suc a) (λ e. differ (omega (arith, exchanged-upper i j 0 ns less within)))))
       ∙ sym (up-between (numbered a) (eqb-zero-suc a) i j ns less within holes) ∙ sym (same-member after j a (exchanged-lower i j 0 ns within ∙ first))
 
   -- and the others
@@ -361,7 +361,7 @@ module _ (t ns bs : List ℕ) (l : IsLinked t ns bs) (i new : ℕ) (within : i <
       (λ m h. either (λ p. numbered k (get_or filled p 0) ≡ numbered k (get_or ns p 0)) i m here (λ nf. ap (numbered k) (elsewhere m nf)))
     where
       here : numbered k (get_or filled i 0) ≡ numbered k (get_or ns i 0)
-      here = ap (numbered k) there ∙ eqb-not (suc new) (suc k) (λ e. ne (omega arith)) ∙ sym (ap (numbered k) empty ∙ eqb-zero-suc k)
+      here = ap (numbered k) there ∙ ne_eqb (suc new) (suc k) (λ e. ne (omega arith)) ∙ sym (ap (numbered k) empty ∙ eqb-zero-suc k)
 
   rest-filled : (m : ℕ) → m < length ns → m ≢ i → get_or bs m 0 ≡ last_same filled m
   rest-filled m h ne = same-from filled m (get_or bs m 0) (λ e. kept-hole t ns bs l m h (sym (elsewhere m ne) ∙ e))
