@@ -1,6 +1,6 @@
 -- What the table says of a node's level.
 use Rattle.hopen.proofs.Names.{◌≡◌, ◌≢◌, ℕ, ◌-◌, ◌<◌, ◌≤◌, true, List, Some, None, length, map, reverse, get_or, set, sym, ◌∙◌, ap, ltb, ltb-true, no_words, position-none, item_put_before, without, holds_one, is_node, is_open, last_place, opened_by, same_node_of, slots_of, somes, stack_of, KeptNode, LastLevels, OpenNode, LevelsStand}
-use Rattle.hopen.proofs.OpenLevels.{level-within, node-level, placed, set-placed}
+use Rattle.hopen.proofs.OpenLevels.{IsPlaced, level-within, node-level, placed, set-placed}
 use Rattle.hopen.proofs.Somes.{any-somes, left-somes, put-somes}
 
 -- what the table says of a node
@@ -10,6 +10,9 @@ module _ (last : LastLevels) (items : List KeptNode) (s : LevelsStand last items
 
   pub level-le : p ≤ length items
   level-le = level-within (is_node n) items p level-of
+
+  pub node-placed : 0 < p → IsPlaced (is_node n) items (p - 1)
+  node-placed some = placed (is_node n) items p level-of some
 
   -- it is not open, so nothing comes below it
   pub put-none : p ≡ 0 → (x : OpenNode ℕ) → stack_of items ≡ item_put_before (is_node n) x (stack_of items)
@@ -24,8 +27,8 @@ module _ (last : LastLevels) (items : List KeptNode) (s : LevelsStand last items
     open-level = ltb-true 0 p (ap (λ k. ltb 0 k) level-of ∙ any-somes (is_node n) (slots_of items) ∙ here)
 
     pub open-here : get_or (map opened_by items) (p - 1) None ≢ None
-    open-here = (placed (is_node n) items p level-of open-level).live
+    open-here = (node-placed open-level).live
 
     -- what is left without it
     pub left-is : somes (reverse (set (map opened_by items) (p - 1) None)) ≡ without (is_node n) (stack_of items)
-    left-is = ap somes (set-placed (is_node n) items (p - 1) None (placed (is_node n) items p level-of open-level)) ∙ left-somes (is_node n) (slots_of items)
+    left-is = ap somes (set-placed (is_node n) items (p - 1) None (node-placed open-level)) ∙ left-somes (is_node n) (slots_of items)

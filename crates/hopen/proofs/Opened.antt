@@ -1,5 +1,5 @@
 -- What is seen of the open nodes after an edit of their vector.
-use Rattle.hopen.proofs.Names.{◌≡◌, ℕ, suc, ◌<◌, ◌≤◌, Bool, List, [], ◌∷◌, Some, None, length, map, reverse, set, refl, sym, ◌∙◌, ap, subst, arith, length-map, length-set, without, changed, last_place, position, position-none, no_words, item_put_before, somes, holds_one, slots_of, stack_of, OpenNode, OpenNodes, opened_by, open_nodes_of, KeptNode, LastLevels, Inside, LevelsStand, Rests, EndsOpen, gap, get_or, sum_by, sum_by-set}
+use Rattle.hopen.proofs.Names.{◌≢◌, None, ◌≡◌, ℕ, suc, ◌<◌, ◌≤◌, Bool, List, [], ◌∷◌, Some, None, length, map, reverse, set, refl, sym, ◌∙◌, ap, subst, arith, length-map, length-set, without, changed, last_place, position, position-none, no_words, item_put_before, somes, holds_one, slots_of, stack_of, OpenNode, OpenNodes, opened_by, open_nodes_of, KeptNode, LastLevels, Inside, LevelsStand, Rests, EndsOpen, gap, get_or, sum_by, sum_by-set}
 use Rattle.hopen.proofs.ExchangedSlots.{ends-set}
 use Rattle.hopen.proofs.OpenLevels.{set-placed, IsPlaced}
 use Rattle.hopen.proofs.Somes.{changed-somes, left-somes}
@@ -53,23 +53,24 @@ module _ (s : OpenNode ℕ → Bool) (items : List KeptNode) (i : ℕ) (p : IsPl
     pub stack-replaced : stack_of new ≡ changed s (λ _. y) (stack_of items)
     stack-replaced = ap (λ l. somes (reverse l)) is ∙ ap somes (set-placed s items i (Some y) p) ∙ changed-somes s y (slots_of items)
 
-    pub rests-replaced : (last next : LastLevels) → Rests last items → LevelsStand next new → next.holes ≡ last.holes → Rests next new
-    rests-replaced last next r stands holes =
-        let within : i < length items = omega (arith, p.sum) in
-        let many : length new ≡ length items =
-        sym (length-map new opened_by) ∙ ap length is ∙ length-set (map opened_by items) i (Some y) ∙ length-map items opened_by in
-        record {
-          stands = stands;
-          ends = subst EndsOpen (sym is) (ends-set (map opened_by items) i y (omega (arith, length-map items opened_by)) r.ends);
-          holes = omega (
-            arith,
-            r.holes,
-            holes,
-            ap (sum_by gap) is,
-            sum_by-set gap (map opened_by items) i (Some y) None (omega (arith, length-map items opened_by)),
-            gap-live (get_or (map opened_by items) i None) p.live,
-            stack-holes items,
-            stack-holes new,
-          );
-          levels = omega (arith, r.levels);
-        }
+-- what is kept is right after it
+pub rests-replaced : (items new : List KeptNode) (i : ℕ) (y : OpenNode ℕ) (last next : LastLevels) → Rests last items → i < length items
+    → get_or (map opened_by items) i None ≢ None → map opened_by new ≡ set (map opened_by items) i (Some y) → LevelsStand next new → next.holes ≡ last.holes
+    → Rests next new
+rests-replaced items new i y last next r within live is stands holes =
+    let same : length (map opened_by items) ≡ length items = length-map items opened_by in
+    let many : length new ≡ length items = sym (length-map new opened_by) ∙ ap length is ∙ length-set (map opened_by items) i (Some y) ∙ same in
+    record {
+      stands = stands;
+      ends = subst EndsOpen (sym is) (ends-set (map opened_by items) i y (omega arith) r.ends);
+      holes = omega (
+        arith,
+        r.holes,
+        ap (sum_by gap) is,
+        sum_by-set gap (map opened_by items) i (Some y) None (omega arith),
+        gap-live (get_or (map opened_by items) i None) live,
+        stack-holes items,
+        stack-holes new,
+      );
+      levels = omega (arith, r.levels);
+    }

@@ -3,9 +3,8 @@
 
 ghost use Rattle.std.specs.Prelude.{◌≡◌, ◌≢◌, ℕ, ◌+◌, ◌<◌, ◌≤◌, ◌^◌, ◌==◌, ◌&&◌, None, false, true, suc, drop, length, map, reverse};
 ghost use Rattle.std.specs.Prelude.{slice_index, slice_index_or, slice_set, vec_capacity, vec_len, if◌then◌else◌};
-ghost use Rattle.std.specs.List.{sum_by};
 ghost use Rattle.hnodes.specs.Nearest.{item_put_before, without};
-ghost use Rattle.hopen.specs.Vocabulary.{exchanged, gap, is_hole, is_node, is_open, is_special, slot_names, open_of, opened_by, same_name_of, same_node_of, sets_at};
+ghost use Rattle.hopen.specs.Vocabulary.{exchanged, is_hole, is_node, is_open, is_special, slot_names, open_of, opened_by, same_name_of, same_node_of, sets_at};
 ghost use Rattle.hopen.specs.Vocabulary.{kept_kind_at, somes, stack_of, tag_of, AreAlikeButNames, AreAsLong, AreHoles, CanPass, EndsOpen, HasRoom, IsHeldLevel, IsLinked};
 ghost use Rattle.hopen.specs.Vocabulary.{KeepSets, Rests, LevelsStand};
 ghost use Rattle.hopen.specs.declared.kept.Kind.TheVariants as Kind;
@@ -199,15 +198,11 @@ fn next_open(items: &[KeptNode], index: usize) -> usize
 
 /// Moves a node down to another index, or up to the first node that it cannot pass, and returns where it then is.
 fn sink(last: &mut LastLevels, items: &mut [KeptNode], from: usize, to: usize) -> usize
-    requires stands { LevelsStand last.old items.old }
-    requires ends { EndsOpen (map opened_by items.old) }
-    requires levels { length items.old < 2 ^ 32 }
+    requires rests { Rests last.old items.old }
     requires from { from < length items.old }
     requires live { slice_index_or (map opened_by items.old) from None ≢ None }
     requires to { to < length items.old }
-    ensures stands { LevelsStand last.new items.new }
-    ensures ends { EndsOpen (map opened_by items.new) }
-    ensures holes { sum_by gap (map opened_by items.new) ≡ sum_by gap (map opened_by items.old) }
+    ensures rests { Rests last.new items.new }
     ensures within { result < length items.new }
     ensures same { slice_index_or (map opened_by items.new) result None ≡ slice_index_or (map opened_by items.old) from None }
     ensures rest { somes (reverse (slice_set (map opened_by items.new) result None)) ≡ somes (reverse (slice_set (map opened_by items.old) from None)) }

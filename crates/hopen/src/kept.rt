@@ -424,14 +424,12 @@ pub(crate) fn rewrite(last: &mut LastLevels, items: &mut [KeptNode], index: usiz
 /// Puts a new node in the place of one. It takes constant time where the new node has the name of the old one, which is not special and
 /// open nowhere else; otherwise it updates what is kept below it.
 pub(crate) fn replace(last: &mut LastLevels, items: &mut [KeptNode], index: usize, new: Open)
-    requires stands { LevelsStand last.old items.old }
+    requires rests { Rests last.old items.old }
     requires within { index < length items.old }
     requires live { slice_index_or (map opened_by items.old) index None ≢ None }
-    requires levels { length items.old < 2 ^ 32 }
     requires new_in { HasRoom last.old new }
-    ensures stands { LevelsStand last.new items.new }
+    ensures rests { Rests last.new items.new }
     ensures items { map opened_by items.new ≡ slice_set (map opened_by items.old) index (Some (open_of new)) }
-    ensures tables { AreAsLong last.new last.old }
 {
     // Taken apart for the prover alone (CONTRIBUTING.md, "Traps").
     let Open { node, name } = new;

@@ -3,6 +3,7 @@ use Rattle.hopen.proofs.ExchangedSlots.{drop-exchanged, drop-later, ends-exchang
 use Rattle.hopen.proofs.Passed.{sum-exchanged}
 use Rattle.hopen.proofs.Projected.{no-name}
 use Rattle.hopen.proofs.Swapped.{exchanged-lower}
+use Rattle.hopen.proofs.Trimmed.{stack-holes}
 use Rattle.hopen.proofs.exchange.sink.Goals as goal
 
 pub loop-index-preserved : goal.loop-index-preserved
@@ -17,9 +18,20 @@ loop-index-preserved c =
     let holes : (m : ℕ) → i < m → m < j → get_or ys m None ≡ None =
     λ m a b. no-name ys m (below.holes m a b) in
     record {
-      stands = c.swap.ensures.stands;
-      ends = subst EndsOpen (sym opened) (ends-exchanged ys i j below.order within (λ e. c.requires.live (sym w.same ∙ e)) w.ends);
-      holes = ap (sum_by gap) opened ∙ sum-exchanged gap ys i j None below.order within ∙ w.holes;
+      rests = record {
+        stands = c.swap.ensures.stands;
+        ends = subst EndsOpen (sym opened) (ends-exchanged ys i j below.order within (λ e. c.requires.live (sym w.same ∙ e)) w.rests.ends);
+        holes = omega (
+          arith,
+          w.rests.holes,
+          c.swap.ensures.tables.holes,
+          ap (sum_by gap) opened,
+          sum-exchanged gap ys i j None below.order within,
+          stack-holes c.loop-index.items,
+          stack-holes c.swap.new.items,
+        );
+        levels = omega (arith, w.rests.levels, c.swap.auto.items);
+      };
       within = omega (arith, below.within, c.swap.auto.items);
       same = ap (λ l. get_or l j None) opened ∙ exchanged-lower i j None ys within ∙ w.same;
       rest = ap (λ l. somes (reverse (set l j None))) opened ∙ rest-exchanged ys i j below.order holes ∙ w.rest;

@@ -1,11 +1,9 @@
-use Rattle.hopen.proofs.Names.{◌≡◌, ◌+◌, ◌-◌, ◌<◌, None, drop, get_or, set, length, map, reverse, somes, LevelsStand, EndsOpen, opened_by, AreAsLong, gap, sum_by}
+use Rattle.hopen.proofs.Names.{◌≡◌, ◌+◌, ◌-◌, ◌<◌, None, drop, get_or, set, length, map, reverse, somes, Rests, opened_by, AreAsLong}
 use Rattle.hopen.proofs.exchange.sink.Given as goal
 
 abbrev pub invariant-loop-index : goal.invariant-loop-index
 invariant-loop-index l = record {
-  stands : LevelsStand l.last l.items;
-  ends : EndsOpen (map opened_by l.items);
-  holes : sum_by gap (map opened_by l.items) ≡ sum_by gap (map opened_by l.initial.items);
+  rests : Rests l.last l.items;
   within : l.index < length l.items;
   same : get_or (map opened_by l.items) l.index None ≡ get_or (map opened_by l.initial.items) l.from None;
   rest : somes (reverse (set (map opened_by l.items) l.index None)) ≡ somes (reverse (set (map opened_by l.initial.items) l.from None));
