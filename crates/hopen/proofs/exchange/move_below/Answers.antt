@@ -1,4 +1,4 @@
-use Rattle.hopen.proofs.Names.{◌≡◌, ◌+◌, ◌-◌, ◌≤◌, Some, length, map, reverse, insert, sym, ◌∙◌, ap, subst, arith, length-insert, length-map, item_put_before, is_node, open_of, opened_by, somes, gap, sum_by, sum_by-insert, EndsOpen}
+use Rattle.hopen.proofs.Names.{common_steps, ◌≡◌, ◌+◌, ◌-◌, ◌≤◌, Some, length, map, reverse, insert, sym, ◌∙◌, ap, subst, arith, length-insert, length-map, item_put_before, is_node, open_of, opened_by, somes, gap, sum_by, sum_by-insert, EndsOpen}
 use Rattle.hopen.proofs.ExchangedSlots.{ends-insert, put-placed}
 use Rattle.hopen.proofs.NodeLevels.{level-le, level-of, put-none}
 use Rattle.hopen.proofs.OpenLevels.{placed}
@@ -10,10 +10,7 @@ insert-requires-clause-within c =
     level-le c.remove.new.last c.remove.new.items.items c.remove.ensures.rests.stands c.args.above c.of_node-level.result c.of_node-level.ensures
 
 pub returns-else-level-gt0-clause-items : goal.returns-else-level-gt0-clause-items
-returns-else-level-gt0-clause-items c =
-    let new = open_of c.args.new in
-    put-none c.remove.new.last c.remove.new.items.items c.remove.ensures.rests.stands c.args.above c.of_node-level.result c.of_node-level.ensures
-    (omega arith) new ∙ ap (item_put_before (is_node c.args.above) new) c.remove.ensures.items
+returns-else-level-gt0-clause-items c = grind (arith, common_steps, put-none)
 
 pub returns-then-level-gt0-clause-rests : goal.returns-then-level-gt0-clause-rests
 returns-then-level-gt0-clause-rests c =

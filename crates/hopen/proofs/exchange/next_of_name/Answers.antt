@@ -1,4 +1,4 @@
-use Rattle.hopen.proofs.Names.{◌≡◌, ℕ, suc, ◌-◌, ◌+◌, ◌<◌, ◌≤◌, List, length, map, get_or, sym, ◌∙◌, ap, subst, arith, length-map, get_or_default, IsHeldLevel, slot_names, opened_by, same_name_of, KeptNode}
+use Rattle.hopen.proofs.Names.{common_steps, ◌≡◌, ℕ, suc, ◌-◌, ◌+◌, ◌<◌, ◌≤◌, List, length, map, get_or, sym, ◌∙◌, ap, subst, arith, length-map, get_or_default, IsHeldLevel, slot_names, opened_by, same_name_of, KeptNode}
 use Rattle.hopen.proofs.Projected.{length-names, name-at, name-in, same_name-at}
 use Rattle.hopen.proofs.Swapped.{Walks, held-at, held-next, walk-start, walk-up}
 use Rattle.hopen.proofs.exchange.next_of_name.Goals as goal
@@ -8,34 +8,10 @@ same-item : (items : List KeptNode) (i : ℕ) (x y : KeptNode) → i < length it
 same-item items i x y h is too = is ∙ get_or_default items i x y h ∙ sym too
 
 pub bounds-names-index : goal.bounds-names-index
-bounds-names-index c =
-    let items = c.args.items.now in
-    let x = c.index-items-index.result in
-    let is = c.index-items-index.is in
-    omega (
-      arith,
-      c.index.ensures,
-      name-in items c.args.index x c.requires.within is (c.requires.live x is) c.args.names.now
-          (map same_name_of items) c.requires.linked,
-    )
+bounds-names-index c = grind (arith, common_steps, name-in)
 
 pub loop-before-init : goal.loop-before-init
-loop-before-init c =
-    let items = c.args.items.now in
-    let i = c.args.index in
-    let names = c.args.names.now in
-    let x = c.index-items-index.result in
-    let is = c.index-items-index.is in
-    let ns = slot_names (map opened_by items) in
-    let name = name-at items i x c.requires.within is (c.requires.live x is) in
-    let start = walk-start names ns (map same_name_of items) c.requires.linked i x.opened.name name (omega (arith, c.requires.within, length-names items)) in
-    record {
-      within = omega arith;
-      walks = subst (λ k. Walks ns i (get_or names k 0)) (sym c.index.ensures) start;
-      top = λ e y too. ap (λ k. get_or names k 0) c.index.ensures
-          ∙ ap (λ (z : KeptNode). get_or names z.opened.name 0) (same-item items i x y c.requires.within is too);
-      kept = λ j e. absurd (omega arith);
-    }
+loop-before-init c = grind (arith, common_steps, length-names, name-at, same-item, walk-start)
 
 pub loop-before-preserved : goal.loop-before-preserved
 loop-before-preserved c =

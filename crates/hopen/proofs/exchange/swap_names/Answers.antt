@@ -1,68 +1,22 @@
-use Rattle.hopen.proofs.Names.{◌≡◌, ◌≢◌, ℕ, suc, ◌+◌, ◌<◌, ◌&&◌, eqb, cond, List, length, map, get_or, set, sym, ◌∙◌, ap, subst, arith, eqb-true, eqb-false, get_or-set_same, get_or-set_other, length-map, length-set, IsHeldLevel, IsLinked, slot_names, opened_by, same_name_of, level_exchanged, KeptNode}
+use Rattle.hopen.proofs.Names.{common_steps, ◌≡◌, ◌≢◌, ℕ, suc, ◌+◌, ◌<◌, ◌&&◌, eqb, cond, List, length, map, get_or, set, sym, ◌∙◌, ap, arith, eqb-true, eqb-false, get_or-set_same, get_or-set_other, length-map, length-set, IsHeldLevel, slot_names, opened_by, same_name_of, level_exchanged, KeptNode}
 use Rattle.hopen.proofs.Projected.{held-within, length-names, name-at, name-in, same_name-at}
 use Rattle.hopen.proofs.Swapped.{exchanged-same, linked-swapped, moved-list, moved-table}
 use Rattle.hopen.proofs.exchange.swap_names.Goals as goal
 
 pub keep-requires-clause-name_in : goal.keep-requires-clause-name_in
-keep-requires-clause-name_in c =
-    let items = c.args.items.now in
-    let x = c.index-items-index.result in
-    let is = c.index-items-index.is in
-    name-in items c.args.index x (omega (arith, c.requires.order, c.requires.within)) is (c.requires.upper x is) c.args.names.now
-    (map same_name_of items) c.requires.linked
+keep-requires-clause-name_in c = grind (arith, common_steps, name-in)
 
 pub keep-requires-2-clause-name_in : goal.keep-requires-2-clause-name_in
-keep-requires-2-clause-name_in c =
-    let items = c.args.items.now in
-    let y = c.index-items-below.result in
-    let is = c.index-items-below.is in
-    omega (
-      arith,
-      c.keep.auto.names,
-      name-in items c.args.below y c.requires.within is (c.requires.lower y is) c.args.names.now
-          (map same_name_of items) c.requires.linked,
-    )
+keep-requires-2-clause-name_in c = grind (arith, common_steps, name-in)
 
 pub keep-requires-clause-within : goal.keep-requires-clause-within
-keep-requires-clause-within c =
-    let items = c.args.items.now in
-    let x = c.index-items-index.result in
-    let held = c.next_of_name-upper_next.ensures x c.index-items-index.is in
-    omega (
-      arith,
-      held-within c.args.names.now (map same_name_of items) x.opened.name (c.args.index + 1) c.next_of_name-upper_next.result
-          (omega arith) held,
-      length-map items same_name_of,
-    )
+keep-requires-clause-within c = grind (arith, common_steps, held-within, length-map)
 
 pub keep-requires-2-clause-within : goal.keep-requires-2-clause-within
-keep-requires-2-clause-within c =
-    let items = c.args.items.now in
-    let y = c.index-items-below.result in
-    let held = c.next_of_name-lower_next.ensures y c.index-items-below.is in
-    omega (
-      arith,
-      held-within c.args.names.now (map same_name_of items) y.opened.name (c.args.below + 1) c.next_of_name-lower_next.result
-          (omega arith) held,
-      length-map items same_name_of,
-      c.keep.auto.items,
-    )
+keep-requires-2-clause-within c = grind (arith, common_steps, held-within, length-map)
 
 pub returns-then-eq-clause-linked : goal.returns-then-eq-clause-linked
-returns-then-eq-clause-linked c =
-    let items = c.args.items.now in
-    let i = c.args.index in
-    let j = c.args.below in
-    let x = c.index-items-index.result in
-    let y = c.index-items-below.result in
-    let first = c.index-items-index.is in
-    let second = c.index-items-below.is in
-    let ns = slot_names (map opened_by items) in
-    let same : get_or ns i 0 ≡ get_or ns j 0 =
-    name-at items i x (omega (arith, c.requires.order, c.requires.within)) first (c.requires.upper x first)
-    ∙ ap suc (eqb-true _ _ (sym c.eq.ensures ∙ c.if-eq.true))
-    ∙ sym (name-at items j y c.requires.within second (c.requires.lower y second)) in
-    subst (λ l. IsLinked c.args.names.now l (map same_name_of items)) (sym (exchanged-same i j 0 ns same)) c.requires.linked
+returns-then-eq-clause-linked c = grind (arith, common_steps, eqb-true, exchanged-same, name-at)
 
 pub returns-clause-linked : goal.returns-clause-linked
 returns-clause-linked c =

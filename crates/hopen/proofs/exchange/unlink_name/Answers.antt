@@ -1,26 +1,13 @@
-use Rattle.hopen.proofs.Names.{◌≡◌, ◌≢◌, ℕ, suc, ◌+◌, ◌&&◌, eqb, cond, List, length, map, get_or, set, sym, ◌∙◌, ap, subst, arith, get_or-set_same, get_or-set_other, length-map, IsHeldLevel, slot_names, opened_by, same_name_of, KeptNode}
+use Rattle.hopen.proofs.Names.{common_steps, ◌≡◌, ◌≢◌, ℕ, suc, ◌+◌, ◌&&◌, eqb, cond, List, length, map, get_or, set, sym, ◌∙◌, ap, subst, arith, get_or-set_same, get_or-set_other, length-map, IsHeldLevel, slot_names, opened_by, same_name_of, KeptNode}
 use Rattle.hopen.proofs.Projected.{held-within, length-names, name-in, same_name-at}
 use Rattle.hopen.proofs.Swapped.{linked-left}
 use Rattle.hopen.proofs.exchange.unlink_name.Goals as goal
 
 pub keep-requires-clause-name_in : goal.keep-requires-clause-name_in
-keep-requires-clause-name_in c =
-    let items = c.args.items.now in
-    let x = c.index-items-index.result in
-    let is = c.index-items-index.is in
-    name-in items c.args.index x c.requires.within is (c.requires.live x is) c.args.names.now (map same_name_of items) c.requires.linked
+keep-requires-clause-name_in c = grind (arith, common_steps, name-in)
 
 pub keep-requires-clause-within : goal.keep-requires-clause-within
-keep-requires-clause-within c =
-    let items = c.args.items.now in
-    let x = c.index-items-index.result in
-    let held = c.next_of_name-next.ensures x c.index-items-index.is in
-    omega (
-      arith,
-      held-within c.args.names.now (map same_name_of items) x.opened.name (c.args.index + 1) c.next_of_name-next.result
-          (omega arith) held,
-      length-map items same_name_of,
-    )
+keep-requires-clause-within c = grind (arith, common_steps, held-within, length-map)
 
 pub returns-clause-linked : goal.returns-clause-linked
 returns-clause-linked c =

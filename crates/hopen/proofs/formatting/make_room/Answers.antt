@@ -1,4 +1,4 @@
-use Rattle.hopen.proofs.Names.{◌∙◌, ap, sym, subst, refl, listed_items, live, AreSlotsListed}
+use Rattle.hopen.proofs.Names.{arith, common_steps, ◌∙◌, ap, listed_items, live}
 use Rattle.hopen.proofs.Slotted.{listed-same}
 use Rattle.hopen.proofs.Holes.{live-tail}
 use Rattle.hopen.proofs.formatting.make_room.Goals as goal
@@ -14,8 +14,4 @@ returns-clause-same c =
     ]
 
 pub returns-clause-listed : goal.returns-clause-listed
-returns-clause-listed c =
-    listed-same c.if-slots-gt0.slots _ (elim c.if-slots-gt0.branch [
-      | then-slots-gt0 w ↦ subst AreSlotsListed (sym w.slots-is) w.close.ensures.listed
-      | else-slots-gt0 w ↦ subst AreSlotsListed (sym w.slots-is) c.requires
-    ]) refl c.reserve.ensures.items refl refl refl refl
+returns-clause-listed c = grind (arith, common_steps, listed-same)

@@ -1,17 +1,9 @@
-use Rattle.hopen.proofs.Names.{◌≡◌, suc, ◌+◌, subst, arith, LevelsTo, LastLevels, closing}
+use Rattle.hopen.proofs.Names.{common_steps, ◌≡◌, suc, ◌+◌, subst, arith, LevelsTo, LastLevels, closing}
 use Rattle.hopen.proofs.Standing.{few-closed, levels-alike, levels-more, one-closes}
 use Rattle.hopen.proofs.kept.enter.Goals as goal
 
 pub overflow_add-last : goal.overflow_add-last
-overflow_add-last c =
-    omega (
-      arith,
-      c.set.ensures.closes,
-      few-closed c.args.last.now c.args.items.now c.args.index (omega arith) c.requires.stands,
-      c.closing.ensures,
-      one-closes c.args.slot.kind,
-      c.requires.levels,
-    )
+overflow_add-last c = grind (arith, common_steps, few-closed, one-closes)
 
 pub returns-clause-stands : goal.returns-clause-stands
 returns-clause-stands c =

@@ -1,4 +1,4 @@
-use Rattle.hopen.proofs.Names.{◌≡◌, ◌∷◌, ◌++◌, List, drop, ◌∙◌, sym, ap, subst, map, rules, take, take_at, take-map, drop-map, map-append, length-take-le, All-append, All-cons, All-drop, All-take, AreIn, IsIn, LevelsTo, opened_by, KeptNode, insert, ℕ}
+use Rattle.hopen.proofs.Names.{arith, common_steps, ◌≡◌, ◌∷◌, ◌++◌, List, drop, ◌∙◌, sym, ap, subst, map, rules, take, take_at, take-map, drop-map, map-append, length-take-le, All-append, All-cons, All-drop, All-take, AreIn, IsIn, LevelsTo, opened_by, KeptNode, insert, ℕ}
 use Rattle.hopen.proofs.Standing.{in-as-long, levels-front, stands-in}
 use Rattle.hopen.proofs.WrittenBack.{written_back}
 use Rattle.hopen.proofs.kept.insert.Goals as goal
@@ -7,11 +7,7 @@ map-insert : {X Y : Type 0} (f : X → Y) (xs : List X) (i : ℕ) (x : X) → ma
 map-insert f xs i x = map-append f (take i xs) (x ∷ drop i xs) ∙ (λ k. sym (take-map f i xs) k ++ f x ∷ sym (drop-map f i xs) k)
 
 pub returns-clause-items : goal.returns-clause-items
-returns-clause-items c =
-    let put : c.insert.new.self.items ≡ insert c.args.items.now.items c.args.index c.new.result = search rules in
-    ap (map opened_by) (written_back c.rewind.new.items _ _ _ c.rewind.ensures.same c.deref_mut.ensures.value c.deref_mut.ensures.len)
-    ∙ c.rewind.ensures.same ∙ ap (map opened_by) (c.deref_mut.ensures.value ∙ put)
-    ∙ map-insert opened_by c.args.items.now.items c.args.index c.new.result ∙ ap (insert (map opened_by c.args.items.now.items) c.args.index) c.new.ensures
+returns-clause-items c = grind (arith, common_steps, map-insert, written_back)
 
 pub rewind-requires-clause-stands : goal.rewind-requires-clause-stands
 rewind-requires-clause-stands c =

@@ -1,4 +1,4 @@
-use Rattle.hopen.proofs.Names.{◌≡◌, ℕ, suc, ◌+◌, ◌<◌, List, Some, None, length, map, set, get_or, ap, sym, ◌∙◌, subst, arith, get_or-set_same, get_or-set_other, length-map, length-set, map-set, map-set_same, take-set, opened_by, open_of, is_hole_kind, false, HasRoom, IsIn, KeptNode, LastLevels, LevelsTo, Open}
+use Rattle.hopen.proofs.Names.{common_steps, ◌≡◌, ℕ, suc, ◌+◌, ◌<◌, List, Some, None, length, map, set, get_or, ap, sym, ◌∙◌, subst, arith, get_or-set_same, get_or-set_other, length-map, length-set, map-set, map-set_same, take-set, opened_by, open_of, is_hole_kind, false, HasRoom, IsIn, KeptNode, LastLevels, LevelsTo, Open}
 use Rattle.hopen.proofs.Held.{below-held, held, no-node}
 use Rattle.hopen.proofs.Projected.{part-at}
 use Rattle.hopen.proofs.Standing.{below-front, levels-front, levels-gap}
@@ -16,11 +16,7 @@ returns-then-is_hole-clause-stands c =
     c.hole.ensures.levels.0 c.hole.ensures.levels.1 (levels-front i last (set items i h) items (take-set items i h) c.requires.stands))
 
 pub returns-then-is_hole-clause-same : goal.returns-then-is_hole-clause-same
-returns-then-is_hole-clause-same c =
-    let x = c.index-items-index.result in
-    let h = c.hole.result in
-    map-set_same opened_by c.args.items.now c.args.index h x
-    (no-node h (ap is_hole_kind c.hole.ensures.hole) ∙ sym (ap opened_by (sym c.index-items-index.is) ∙ no-node x (sym c.is_hole.ensures ∙ c.if-is_hole.true)))
+returns-then-is_hole-clause-same c = grind (arith, common_steps, map-set_same, no-node)
 
 -- the tables have the numbers of the node of a slot
 room-of : (last : LastLevels) (items : List KeptNode) (i : ℕ) (x : KeptNode) → i < length items → x ≡ get_or items i x → is_hole_kind x.kind ≡ false
@@ -28,11 +24,7 @@ room-of : (last : LastLevels) (items : List KeptNode) (i : ℕ) (x : KeptNode) �
 room-of last items i x h is live there = subst (IsIn last) (part-at opened_by None items i x h is ∙ held x live) there
 
 pub slot_below-slot-requires-clause-room : goal.slot_below-slot-requires-clause-room
-slot_below-slot-requires-clause-room c =
-    let items = c.args.items.now in
-    let i = c.args.index in
-    room-of c.args.last.now items i c.index-items-index.result (omega arith) c.index-items-index.is (sym c.is_hole.ensures ∙ c.if-is_hole.false)
-    (c.requires.numbers i None (omega (arith, length-map items opened_by)))
+slot_below-slot-requires-clause-room c = grind (arith, common_steps, length-map, room-of)
 
 pub enter-requires-clause-stands : goal.enter-requires-clause-stands
 enter-requires-clause-stands c =
@@ -51,13 +43,7 @@ enter-requires-clause-below c =
     (λ j h. ap (λ l. get_or l j None) (map-set opened_by items i x) ∙ get_or-set_other (map opened_by items) i j (opened_by x) None (λ e. absurd (omega arith)))
 
 pub enter-requires-clause-room : goal.enter-requires-clause-room
-enter-requires-clause-room c =
-    let items = c.args.items.now in
-    let i = c.args.index in
-    let below = c.slot_below-slot.ensures items i c.sets_of.ensures in
-    subst (HasRoom c.args.last.now) (sym below.opened)
-    (room-of c.args.last.now items i c.index-items-index.result (omega arith) c.index-items-index.is (sym c.is_hole.ensures ∙ c.if-is_hole.false)
-    (c.requires.numbers i None (omega (arith, length-map items opened_by))))
+enter-requires-clause-room c = grind (arith, common_steps, length-map, room-of)
 
 pub returns-clause-same : goal.returns-clause-same
 returns-clause-same c =

@@ -1,4 +1,4 @@
-use Rattle.hopen.proofs.Names.{◌≡◌, ℕ, None, suc, List, ◌-◌, ◌<◌, ◌∙◌, sym, subst, arith, length, opened_by, KeptNode, LastLevels, LevelsTo}
+use Rattle.hopen.proofs.Names.{common_steps, ◌≡◌, ℕ, None, suc, List, ◌-◌, ◌<◌, ◌∙◌, sym, subst, arith, length, opened_by, KeptNode, LastLevels, LevelsTo}
 use Rattle.hopen.proofs.Held.{held, no-node}
 use Rattle.hopen.proofs.Projected.{part-at}
 use Rattle.hopen.proofs.Standing.{levels-counted, levels-hole, levels-in, levels-less}
@@ -9,17 +9,10 @@ slot-stands : (n : ℕ) (last : LastLevels) (items : List KeptNode) → 0 < n �
 slot-stands n last items some s = let next : n ≡ suc (n - 1) = omega arith in subst (λ k. LevelsTo k last items) next s
 
 pub take_back-requires-clause-room : goal.take_back-requires-clause-room
-take_back-requires-clause-room c =
-    levels-in c.args.items.now (c.loop-end.end - 1) (omega (arith, c.loop-end.invariant.within)) c.loop-end.last c.index-items-end.result c.index-items-end.is
-    (slot-stands c.loop-end.end c.loop-end.last c.args.items.now (omega arith) c.loop-end.invariant.stands)
-    (held c.index-items-end.result (sym c.is_hole.ensures ∙ c.if-not-is_hole.true))
+take_back-requires-clause-room c = grind (arith, common_steps, held, levels-in, slot-stands)
 
 pub take_back-requires-clause-counted : goal.take_back-requires-clause-counted
-take_back-requires-clause-counted c =
-    levels-counted c.args.items.now (c.loop-end.end - 1) (omega (arith, c.loop-end.invariant.within)) c.loop-end.last c.index-items-end.result
-    c.index-items-end.is
-    (slot-stands c.loop-end.end c.loop-end.last c.args.items.now (omega arith) c.loop-end.invariant.stands)
-    (held c.index-items-end.result (sym c.is_hole.ensures ∙ c.if-not-is_hole.true))
+take_back-requires-clause-counted c = grind (arith, common_steps, held, levels-counted, slot-stands)
 
 pub loop-end-preserved-then-not-is_hole : goal.loop-end-preserved-then-not-is_hole
 loop-end-preserved-then-not-is_hole c =

@@ -1,4 +1,4 @@
-use Rattle.hopen.proofs.Names.{◌≡◌, ◌-◌, ◌<◌, List, None, length, map, take, get_or, sym, ap, ◌∙◌, subst, arith, rules, length-take-le, opened_by, stack_of, LevelsStand, EndsOpen, KeptNode, gap, sum_by}
+use Rattle.hopen.proofs.Names.{common_steps, ◌≡◌, ◌-◌, ◌<◌, List, None, length, map, take, get_or, sym, ap, ◌∙◌, subst, arith, rules, length-take-le, opened_by, stack_of, LevelsStand, KeptNode, gap, sum_by}
 use Rattle.hopen.proofs.Trimmed.{holes-trimmed, stack-holes, stack-trimmed, stands-trimmed}
 use Rattle.hopen.proofs.leaving.trim.Goals as goal
 
@@ -28,9 +28,4 @@ loop-items-preserved c =
     }
 
 pub returns-clause-rests : goal.returns-clause-rests
-returns-clause-rests c = record {
-  stands = c.loop-items.invariant.stands;
-  ends = subst (λ (xs : List KeptNode). EndsOpen (map opened_by xs)) c.deref.ensures.value (c.ends_in_hole.ensures.live c.loop-items-test.false);
-  holes = omega (arith, c.loop-items.invariant.holes, stack-holes c.loop-items.items.items);
-  levels = omega (arith, c.loop-items.invariant.len, c.requires.levels);
-}
+returns-clause-rests c = grind (arith, common_steps, stack-holes)

@@ -1,4 +1,4 @@
-use Rattle.hopen.proofs.Names.{◌∙◌, arith}
+use Rattle.hopen.proofs.Names.{common_steps, ◌∙◌, arith}
 use Rattle.hopen.proofs.SetLevel.{nearest-at, nearest-from, node-in, none-open, level-within}
 use Rattle.hopen.proofs.sought.set_level.Goals as goal
 
@@ -7,13 +7,7 @@ returns-then-node-eq0 c = none-open c.args.last.now c.args.items.now c.requires.
     ∙ c.sets_at_end.ensures c.args.set) c.if-node-eq0.true
 
 pub index-level-requires : goal.index-level-requires
-index-level-requires c =
-    omega (
-      arith,
-      c.args.last.now.nodes.ok.0,
-      node-in c.args.last.now c.args.items.now c.requires.stands c.args.set c.of-node.result (c.of-node.ensures
-          ∙ c.sets_at_end.ensures c.args.set) (omega arith),
-    )
+index-level-requires c = grind (arith, common_steps, node-in)
 
 pub overflow_sub-level : goal.overflow_sub-level
 overflow_sub-level c =
@@ -51,7 +45,4 @@ returns-then-items-level-gt0 c =
     (omega arith) c.index-level.result.now c.index-level.ensures
 
 pub returns : goal.returns
-returns c =
-    let kept = c.of-node.ensures ∙ c.sets_at_end.ensures c.args.set in
-    nearest-at c.args.last.now c.args.items.now c.requires.stands c.args.set c.of-node.result kept
-    (omega arith) c.index-level.result.now c.index-level.ensures c.index-items-level.result (omega arith)
+returns c = grind (arith, common_steps, nearest-at)

@@ -1,4 +1,4 @@
-use Rattle.hopen.proofs.Names.{◌≡◌, suc, ◌+◌, ◌-◌, ◌<◌, length, refl, sym, ◌∙◌, ap, arith, list_any, remove, is_entry, hole, item_of, listed_items, live, by_node, without, drop_nearest, no_words, set_nearest, words, ◌==◌, up-within, ℕ, List, Bool, Listed, Stored, AreSlots, nowhere, position, Some}
+use Rattle.hopen.proofs.Names.{common_steps, ◌≡◌, suc, ◌+◌, ◌-◌, ◌<◌, length, refl, sym, ◌∙◌, ap, arith, list_any, remove, is_entry, hole, item_of, listed_items, live, by_node, without, drop_nearest, no_words, set_nearest, words, up-within, ℕ, List, Bool, Listed, Stored, AreSlots, nowhere, position, Some}
 use Rattle.hopen.specs.declared.entry.Slot.TheVariants as stored
 use Rattle.hopen.proofs.Holes.{before-any, number-placed, no-position, node-at, node-none, node_place, placed, placed-within, slots-are}
 use Rattle.hopen.proofs.ItemLists.{length-items_of}
@@ -33,12 +33,7 @@ truncate-requires-clause-within c = omega (
 )
 
 pub before-more-requires-clause-within : goal.before-more-requires-clause-within
-before-more-requires-clause-within c = omega (
-  arith,
-  c.last-place.ensures,
-  up-within (λ k. k == c.node_number.result) c.self.inside.slots.nodes
-      (length c.self.inside.slots.nodes),
-)
+before-more-requires-clause-within c = grind (arith, common_steps, up-within)
 
 pub before-more-requires-clause-number : goal.before-more-requires-clause-number
 before-more-requires-clause-number c =

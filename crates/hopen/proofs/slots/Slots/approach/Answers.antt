@@ -1,5 +1,4 @@
-use Rattle.hopen.proofs.Names.{◌≡◌, ◌<◌, ◌∙◌, ap, subst, true, arith, length, get_or, is_gone, listed_items, live, remove}
-use Rattle.hopen.specs.declared.entry.Slot.TheVariants as stored
+use Rattle.hopen.proofs.Names.{common_steps, ap, arith, length}
 use Rattle.hopen.proofs.Holes.{placed-within}
 use Rattle.hopen.proofs.Jumped.{jumped-rest}
 use Rattle.hopen.proofs.slots.Slots.approach.Goals as goal
@@ -11,8 +10,4 @@ last_hole-requires-clause-place c =
     omega (arith, within, ap length c.deref.ensures.value)
 
 pub returns-clause-rest : goal.returns-clause-rest
-returns-clause-rest c =
-    let items = c.args.self.now.items.items in
-    let there = subst (λ xs. (c.args.index < c.in-Some.hole) × (c.in-Some.hole < length xs) × (is_gone (get_or xs c.in-Some.hole stored.Hole) ≡ true))
-    c.deref.ensures.value c.in-Some.ensures in
-    ap (λ xs. live (listed_items (remove xs c.in-Some.hole))) c.jump.ensures.items ∙ jumped-rest items c.args.index c.in-Some.hole there.0 there.1 there.2
+returns-clause-rest c = grind (arith, common_steps, jumped-rest)

@@ -1,4 +1,4 @@
-use Rattle.hopen.proofs.Names.{◌≡◌, suc, get_or, set, refl, ◌∙◌, ap, arith, get_or_read, listed_items, moved_entry}
+use Rattle.hopen.proofs.Names.{common_steps, ◌≡◌, suc, get_or, set, refl, ◌∙◌, ap, arith, get_or_read, moved_entry}
 use Rattle.hopen.specs.declared.entry.Slot.TheVariants as stored
 use Rattle.hopen.proofs.Moved.{listed-renewed, renewed-items}
 use Rattle.hopen.proofs.slots.Slots.renew.Goals as goal
@@ -14,9 +14,4 @@ returns-clause-listed c =
     (ap (set items c.args.index) (c.set_node.ensures ∙ ap (moved_entry c.args.node) read))
 
 pub returns-clause-items : goal.returns-clause-items
-returns-clause-items c =
-    let items = c.args.self.now.items.items in
-    let read : c.index_mut.result.now ≡ get_or items c.args.index stored.Hole = get_or_read items c.args.index c.index_mut.result.now c.requires.within
-    c.index_mut.ensures.value stored.Hole in
-    ap (λ x. listed_items (set items c.args.index x)) (c.set_node.ensures ∙ ap (moved_entry c.args.node) read)
-    ∙ renewed-items c.args.node items c.args.index c.requires.within c.requires.entry
+returns-clause-items c = grind (arith, common_steps, get_or_read, renewed-items)
