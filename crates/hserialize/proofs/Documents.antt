@@ -1,5 +1,5 @@
 -- What is tested of a plain document is what its definition asks.
-use Rattle.hserialize.proofs.Names.{◌≡◌, ℕ, ◌<◌, Bool, true, false, not, cond, List, [], Some, None, refl, sym, ◌∙◌, ap, subst, arith, ◌&&◌, map, option_map, Option, tag_of, tag_named, Tag, AreCounted, What, element, doctype, comment, text, Forest, none, tree, children_of, mapped, mapped_what, mapped_attribute, Spot, spot_of, first_or, first_child_of, next_of, what_of, row, takes_role, texts_in, Inside, inside_element, inside_node, are_plain_attributes, codes, IfSome, bytes_eq, is_some, is_none, takes_comments, tree_in, trees_from, past_leaves, ArePassed, IsDoctypePassed, is_plain_doctype_what, is_plain_doctype_at, is_leaf_what, is_leaf_at, is_last_text, is_text_alone, is_metadata_what, is_metadata_at, is_named_what, is_last_at, is_head_at, are_content, begins_with_text, is_plain_text, ends_document, is_leaf, leaves_then, comments_then, doctype_then, element_then, is_metadata, inside_head, are_metadata, are_in_html, body_on, html_on, is_plain_document, is_text_node, is_text_at, is_empty_text, Role}
+use Rattle.hserialize.proofs.Names.{◌≡◌, ℕ, ◌<◌, Bool, true, false, not, cond, List, [], Some, None, refl, sym, ◌∙◌, ap, arith, ◌&&◌, map, option_map, Option, tag_of, tag_named, Tag, AreCounted, What, element, doctype, comment, text, Forest, none, tree, children_of, mapped, mapped_what, mapped_attribute, Spot, spot_of, first_or, first_child_of, next_of, what_of, row, takes_role, texts_in, Inside, inside_element, inside_node, are_plain_attributes, codes, IfSome, bytes_eq, is_some, is_none, takes_comments, tree_in, trees_from, past_leaves, ArePassed, IsDoctypePassed, is_plain_doctype_what, is_plain_doctype_at, is_leaf_what, is_leaf_at, is_last_text, is_text_alone, is_metadata_what, is_metadata_at, is_named_what, is_last_at, is_head_at, are_content, begins_with_text, is_plain_text, ends_document, is_leaf, leaves_then, comments_then, doctype_then, element_then, is_metadata, inside_head, are_metadata, are_in_html, body_on, html_on, is_plain_document, is_text_node, is_text_at, is_empty_text, Role}
 use Rattle.hserialize.proofs.Following.{IsFirst, first-at, first-made, children-from}
 use Rattle.hserialize.specs.declared.content.Texts.{Texts as Allowed}
 use Rattle.hserialize.specs.declared.content.Texts.TheVariants as texts
@@ -156,12 +156,10 @@ module _ (spelling : ℕ → List ℕ) (f : Forest ℕ) where
 
   module _ (made : ℕ) (counted : AreCounted made f) where
     -- body, and html
-    pub last-is : (x : List ℕ) (children : Forest (List ℕ) → Bool) (o : Option ℕ) (n : ℕ) → o ≡ Some n → IfSome o (λ n. n < made)
-        → element_then x children (comments_then ends_document) (from o) ≡ (is_last_at spelling x n f && children (mapped spelling (children_of n f)))
-    last-is x children o n is within =
-        let h : n < made = subst (λ o. IfSome o (λ n. n < made)) is within in
-        ap (λ o. element_then x children (comments_then ends_document) (from o)) is
-        ∙ element-step x children (comments_then ends_document) n (first-at made f counted n h)
+    pub last-is : (x : List ℕ) (children : Forest (List ℕ) → Bool) (n : ℕ) → n < made
+        → element_then x children (comments_then ends_document) (from (Some n)) ≡ (is_last_at spelling x n f && children (mapped spelling (children_of n f)))
+    last-is x children n h =
+        element-step x children (comments_then ends_document) n (first-at made f counted n h)
         ∙ swapped (is_named_what spelling x (what_of n f)) (children (mapped spelling (children_of n f))) (comments_then ends_document (from (next_of n f)))
 
     -- the children of html, where this is what their comments end with
@@ -171,14 +169,16 @@ module _ (spelling : ℕ → List ℕ) (f : Forest ℕ) where
         ap (λ g. are_in_html (mapped spelling g)) (sym (children-from made f counted q h) ∙ ap (λ o. trees_from o f) (sym same))
         ∙ past texts.None (element_then (codes "head") are_metadata (leaves_then texts.WhiteSpace body_on)) o to passed
 
-    pub head-is : (n : ℕ) (o to : Option ℕ) → n < made → o ≡ next_of n f → ArePassed texts.WhiteSpace o to f
-        → element_then (codes "head") are_metadata (leaves_then texts.WhiteSpace body_on) (from (Some n)) ≡ (is_head_at spelling n f && body_on (from to))
-    head-is n o to h same passed =
-        element-step (codes "head") are_metadata (leaves_then texts.WhiteSpace body_on) n (first-at made f counted n h)
+    -- where it is this head, and this is what the comments and the white space after it end with
+    pub html-is : (q n : ℕ) (o p to : Option ℕ) → q < made → o ≡ first_child_of q f → ArePassed texts.None o (Some n) f → n < made → p ≡ next_of n f → ArePassed texts.WhiteSpace p to f
+        → are_in_html (mapped spelling (children_of q f)) ≡ (is_head_at spelling n f && body_on (from to))
+    html-is q n o p to h same passed h' same' passed' =
+        in-html q o (Some n) h same passed
+        ∙ element-step (codes "head") are_metadata (leaves_then texts.WhiteSpace body_on) n (first-at made f counted n h')
         ∙ grouped (is_named_what spelling (codes "head") (what_of n f)) (are_metadata (mapped spelling (children_of n f)))
         (leaves_then texts.WhiteSpace body_on (from (next_of n f)))
-        ∙ ap (λ o. is_head_at spelling n f && leaves_then texts.WhiteSpace body_on (from o)) (sym same)
-        ∙ ap (λ u. is_head_at spelling n f && u) (past texts.WhiteSpace body_on o to passed)
+        ∙ ap (λ o. is_head_at spelling n f && leaves_then texts.WhiteSpace body_on (from o)) (sym same')
+        ∙ ap (λ u. is_head_at spelling n f && u) (past texts.WhiteSpace body_on p to passed')
 
     -- a document, past its comments, its doctype and its other comments
     pub document-is : (q : ℕ) (r o p to : Option ℕ) → q < made → r ≡ first_child_of q f → ArePassed texts.None r o f → IsDoctypePassed o p f

@@ -95,25 +95,23 @@ pub record IsEntered (t : Tag) (inside : Inside) (a : Around) : Type 0 where
 set : (v x : Bool) → cond v true x ≡ (x || v)
 set v x = grind (arith)
 
-reset : (v x : Bool) → (v ≡ true → x ≡ false) → cond v false (cond v true x) ≡ x
-reset v x h = grind (arith)
+-- what an element marks is left again where it was not marked before
+again : (v : Bool) (a : Around) → (v ≡ true → a.in_phrasing ≡ false)
+    → cond v (record (cond v (record a { in_phrasing = true }) a) { in_phrasing = false }) (cond v (record a { in_phrasing = true }) a) ≡ a
+again true a h = λ i. record a { in_phrasing = sym (h refl) i }
+again false a h = refl
 
-no_a : (i : Inside) (t : Tag) → is_nested i t ≡ false → is_a t ≡ true → i.in_a ≡ false
-no_a i tag.A h e = h
-no_a i _ h e = never e
-
-no_button : (i : Inside) (t : Tag) → is_nested i t ≡ false → is_button t ≡ true → i.in_button ≡ false
-no_button i tag.Button h e = h
-no_button i _ h e = never e
+marks : (t : Tag) (a : Around) → marked t true a
+    ≡ record { in_a = cond (is_a t) true a.in_a; in_button = cond (is_button t) true a.in_button; in_phrasing = cond (is_phrasing (row t).1) true a.in_phrasing }
+marks tag.A a = refl
+marks _ a = refl
 
 -- what is around an element that is plain is around what comes after it too
 pub left_again : (t : Tag) (c : Content) (allowed : Texts) (a : Around) → takes_role c (row t).0 ≡ true → is_nested (place_in c allowed a) t ≡ false → fits c a.in_phrasing ≡ true
     → marked t false (marked t true a) ≡ a
-left_again t c allowed a takes nested fit = λ i. record {
-  in_a = reset (is_a t) a.in_a (no_a (place_in c allowed a) t nested) i;
-  in_button = reset (is_button t) a.in_button (no_button (place_in c allowed a) t nested) i;
-  in_phrasing = phrasing (inserts_marker t) (rows_agree t) i;
-}
+left_again tag.A c allowed a takes nested fit = λ i. record a { in_a = sym nested i }
+left_again tag.Button c allowed a takes nested fit = λ i. record a { in_button = sym nested i }
+left_again t c allowed a takes nested fit = again (is_phrasing (row t).1) a (λ e. sym (subst (λ v. cond v false (cond v true a.in_phrasing) ≡ a.in_phrasing) e (phrasing (inserts_marker t) (rows_agree t))))
   where
     flow : (k : Content) → is_flow k ≡ true → cond (is_phrasing k) false (cond (is_phrasing k) true a.in_phrasing) ≡ a.in_phrasing
     flow content.Flow h = refl
@@ -128,8 +126,10 @@ pub enter_element : (t : Tag) (c : Content) (allowed : Texts) (a : Around) → i
 enter_element t c allowed a no_marker takes fit =
     let p = inner c (row t).0 (row t).1 a.in_phrasing (subst (λ m. agrees m (row t).0 (row t).1 ≡ true) no_marker (rows_agree t)) takes fit in
     rw no_marker (record {
-      below = λ i. record { content = p.own i; texts = texts_in (p.own i); in_a = set (is_a t) a.in_a i; in_button = set (is_button t) a.in_button i; in_form = false };
-      fit = ap (λ k. fits k (marked t true a).in_phrasing) p.own ∙ p.fit;
+      below = ap (place_below t) (marks t a)
+          ∙ (λ i. record { content = p.own i; texts = texts_in (p.own i); in_a = set (is_a t) a.in_a i; in_button = set (is_button t) a.in_button i; in_form = false });
+      fit = ap (λ m. fits (content_among m.in_phrasing (row t).1) m.in_phrasing) (marks t a)
+          ∙ ap (λ k. fits k (cond (is_phrasing (row t).1) true a.in_phrasing)) p.own ∙ p.fit;
     })
 
 -- an element that inserts a marker begins a region of flow

@@ -5,19 +5,18 @@ use Rattle.hserialize.proofs.Names.{◌≡◌, ℕ, suc, ◌+◌, ◌-◌, ◌<�
 pub next_lines : {A : Type 0} (f : A → List ℕ) (xs : List A) (i : ℕ) (d : A) → i < length xs → flat_map f (drop i xs) ≡ f (get_or xs i d) ++ flat_map f (drop (i + 1) xs)
 next_lines f xs i d h = ap (flat_map f) (drop-cons xs i d h ∙ (λ k. get_or xs i d ∷ drop (sym (add-one i) k) xs))
 
--- the spaces of a line: at first, after two more, and at the end
-pub first_level : (depth : ℕ) → codes "| " ++ repeat depth (codes "  ") ≡ codes "| " ++ repeat (depth - 0) (codes "  ")
-first_level depth = let all : depth ≡ depth - 0 = omega arith in ap (λ n. codes "| " ++ repeat n (codes "  ")) all
+-- a line by its spaces: at first, after two more, and at the end
+pub first_level : (depth : ℕ) (words : List ℕ) → indented depth words ≡ codes "| " ++ (repeat (depth - 0) (codes "  ") ++ (words ++ codes "\n"))
+first_level depth words =
+    append_assoc (codes "| " ++ repeat depth (codes "  ")) words (codes "\n")
+    ∙ (let all : depth ≡ depth - 0 = omega arith in ap (λ n. codes "| " ++ (repeat n (codes "  ") ++ (words ++ codes "\n"))) all)
 
-pub no_level : (depth level : ℕ) → depth ≤ level → repeat (depth - level) (codes "  ") ≡ []
-no_level depth level h = let none : depth - level ≡ 0 = omega arith in ap (λ n. repeat n (codes "  ")) none
+pub no_level : (depth level : ℕ) (after : List ℕ) → depth ≤ level → repeat (depth - level) (codes "  ") ++ after ≡ after
+no_level depth level after h = let none : depth - level ≡ 0 = omega arith in ap (λ n. repeat n (codes "  ") ++ after) none
 
-pub one_level : (depth level : ℕ) → level < depth → repeat (depth - level) (codes "  ") ≡ codes "  " ++ repeat (depth - (level + 1)) (codes "  ")
-one_level depth level h = let one : depth - level ≡ suc (depth - (level + 1)) = omega arith in ap (λ n. repeat n (codes "  ")) one
-
--- the words of a line, and what is around them
-pub line_parts : (depth : ℕ) (words : List ℕ) → indented depth words ≡ (codes "| " ++ repeat depth (codes "  ")) ++ (words ++ codes "\n")
-line_parts depth words = append_assoc (codes "| " ++ repeat depth (codes "  ")) words (codes "\n")
+pub one_level : (depth level : ℕ) (after : List ℕ) → level < depth
+    → repeat (depth - level) (codes "  ") ++ after ≡ codes "  " ++ (repeat (depth - (level + 1)) (codes "  ") ++ after)
+one_level depth level after h = let one : depth - level ≡ suc (depth - (level + 1)) = omega arith in ap (λ n. repeat n (codes "  ") ++ after) one
 
 pub attribute_parts : (depth : ℕ) (name value : List ℕ) → indented depth (name ++ (codes "=\"" ++ (value ++ codes "\""))) ≡ attribute_line depth (name, value)
 attribute_parts depth name value = ap (indented depth) (sym (append_assoc name (codes "=") (between_quotes value)))

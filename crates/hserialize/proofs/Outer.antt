@@ -1,5 +1,7 @@
 -- A node with its own tags.
-use Rattle.hserialize.proofs.Names.{◌≡◌, ℕ, ◌<◌, ◌≤◌, ◌⊎◌, inl, inr, Bool, true, false, cond, option_and_then, name_in, goes_in, closing_of, child-spot, at-most, List, [], ◌++◌, map, Some, refl, sym, ◌∙◌, ap, append-nil, option_map, Texts, AreNames, text_of, is_void, tag_of, tag_named, AreCounted, What, element, Forest, none, tree, times, tree_at, children_of, mapped, mapped_attribute, Spot, what_of, is-there, start_tag_text, end_tag_text, written, written_among, opening, opening_of, stands_raw, holds_raw, node_name, Escaping, root-spot, family, level, Here, Below, not, Written, closing_tag, name_around}
+use Rattle.hserialize.proofs.Names.{◌≡◌, ℕ, ◌<◌, ◌≤◌, ◌⊎◌, inl, inr, Bool, true, false, cond, option_and_then, name_in, goes_in, closing_of, child-spot, at-most, List, [], ◌++◌, map, Some, refl, sym, ◌∙◌, ap, append-nil, option_map, AreNames, text_of, is_void, tag_of, tag_named, AreCounted, What, element, Forest, none, tree, times, tree_at, children_of, mapped, mapped_attribute, Spot, what_of, is-there, start_tag_text, end_tag_text, written, written_among, opening, opening_of, stands_raw, holds_raw, node_name, Escaping, root-spot, family, level, Here, Below, not, Written, closing_tag, name_around}
+use Rattle.hserialize.specs.Vocabulary.{opening_in, closing_in, listed, outer_text}
+use Rattle.hserialize.specs.declared.serializer.Listing.{Listing}
 use Rattle.hserialize.proofs.KnownNames.{tags-agree}
 use Rattle.hserialize.proofs.Wrote.{own-written, stands-own}
 
@@ -33,20 +35,21 @@ one-tree how texts tags raw goes n (element name attrs) kids is =
 one-tree how texts tags raw goes n w kids is = ap (λ u. opening how texts raw w ++ (cond u (written how (option_map texts (name_in w)) (mapped texts kids)) [] ++ [])) is
 
 -- a node is its opening, what is in it and its closing
-pub outer-parts : (how : Escaping) (names : Texts) (made : ℕ) (f : Forest ℕ) (n root : ℕ) (raw goes : Bool) → AreNames names → AreCounted made f → n < made → root ≡ n → raw ≡ holds_raw (node_name n f)
-    → ((w : What ℕ) → what_of n f ≡ Some w → goes_in Written w ≡ goes)
-    → written how (option_map (text_of names) (name_around n f)) (mapped (text_of names) (tree_at n f))
-    ≡ opening_of how (text_of names) (stands_raw root raw n f) (what_of n f)
-    ++ (cond goes (written_among how raw (mapped (text_of names) (children_of root f))) [] ++ closing_of (text_of names) (what_of n f))
-outer-parts how names made f n root raw goes table counted h same own walks =
+pub outer-parts : (l : Listing) (goes : Bool) → AreNames l.names.now → AreCounted l.tree.now.made l.tree.now.trees → l.root < l.tree.now.made → l.raw ≡ holds_raw (node_name l.root l.tree.now.trees)
+    → ((w : What ℕ) → what_of l.root l.tree.now.trees ≡ Some w → goes_in Written w ≡ goes) → outer_text l ≡ opening_in l l.root ++ (cond goes (listed l) [] ++ closing_in l l.root)
+outer-parts l goes table counted h own walks =
+    let how = l.escaping in
+    let names = l.names.now in
     let texts = text_of names in
-    let one = is-there made f counted n h in
+    let n = l.root in
+    let f = l.tree.now.trees in
+    let one = is-there l.tree.now.made f counted n h in
     let kids = children_of n f in
-    let there = what-there n f one (at-most made f counted) in
+    let there = what-there n f one (at-most l.tree.now.made f counted) in
     let what = sym there in
     sym (own-written how names (mapped texts (tree_at n f)) (name_around n f) table)
     ∙ (λ i. written_among how (sym (stands-own n n f) i) (mapped texts ((family n f one).1 i)))
     ∙ one-tree how texts (tags-agree names table) (stands_raw n (holds_raw (node_name n f)) n f) goes n (family n f one).0 kids (walks _ there)
     ∙ (λ i. opening_of how texts (stands_raw n (holds_raw (node_name n f)) n f) (what i) ++ (cond goes (written how (option_map texts (option_and_then name_in (what i))) (mapped texts kids)) [] ++ closing_of texts (what i)))
-    ∙ (λ i. opening_of how texts (stands_raw n (holds_raw (node_name n f)) n f) (what_of n f) ++ (cond goes (sym (own-written how names (mapped texts kids) (node_name n f) table) i) [] ++ closing_of texts (what_of n f)))
-    ∙ (λ i. opening_of how texts (stands_raw (sym same i) (sym own i) n f) (what_of n f) ++ (cond goes (written_among how (sym own i) (mapped texts (children_of (sym same i) f))) [] ++ closing_of texts (what_of n f)))
+    ∙ (λ i. opening_of how texts (stands_raw n (sym own i) n f) (what_of n f) ++ (cond goes (sym (own-written how names (mapped texts kids) (node_name n f) table) i) [] ++ closing_of texts (what_of n f)))
+    ∙ (λ i. opening_in l n ++ (cond goes (written_among how (sym own i) (mapped texts kids)) [] ++ closing_in l n))

@@ -1,5 +1,6 @@
 -- What a walk over a region tests.
-use Rattle.hserialize.proofs.Names.{◌≡◌, ℕ, ◌<◌, Bool, true, false, not, cond, List, Some, None, refl, ◌∙◌, ap, option_and_then, and_parts, not-true, ◌&&◌, Option, Texts, AreNames, text_of, tag_of, tag_named, Tag, AreCounted, What, element, Forest, none, tree, children_of, mapped, mapped_what, name_in, row, takes_role, texts_in, Inside, inside_node, inside_element, is_nested, is_plain_node, inserts_marker, are_region_content, begins_region, in_region, without_form, is_phrasing, content_among, texts_at_top, tag_or_other, tag_at, marked, visits, Around, Content, Visit, eqb, eq-eqb, text, first_or, what_of, begins_with_text, alone, standing_at_top, standing_in, standing_of, inside_is, is_text_node, node_begins_with_line_feed, is_text_at, begins_at, is_plain_element, is_plain_what, is_plain_at, after_visit, goes_in, Region}
+use Rattle.hserialize.proofs.Names.{◌≡◌, ℕ, ◌<◌, Bool, true, false, not, cond, List, Some, None, refl, ◌∙◌, ap, option_and_then, and_parts, not-true, ◌&&◌, Option, Texts, AreNames, text_of, tag_of, tag_named, Tag, AreCounted, What, element, Forest, none, tree, children_of, mapped, mapped_what, name_in, row, takes_role, texts_in, Inside, inside_node, inside_element, is_nested, is_plain_node, inserts_marker, are_region_content, begins_region, in_region, without_form, is_phrasing, content_among, texts_at_top, tag_or_other, tag_at, marked, visits, Around, Content, Visit, eqb, eq-eqb, text, first_or, what_of, begins_with_text, alone, standing_at_top, standing_in, standing_of, inside_is, is_text_node, node_begins_with_line_feed, is_text_at, begins_at, is_plain_element, is_plain_what, is_plain_at, after_visit, goes_in, Region, parent_of, Enter}
+use Rattle.hserialize.specs.declared.around.Standing.{Standing}
 use Rattle.hserialize.proofs.KnownNames.{tags-agree}
 use Rattle.hserialize.proofs.Runs.{run, walked, run-visits}
 use Rattle.hserialize.proofs.Seen.{Seen, seen}
@@ -161,6 +162,12 @@ module _ (spelling : ℕ → List ℕ) (tags : (id : ℕ) → tag_of id ≡ tag_
           let at : Stands p b a (without_form (inside_node (mapped_what spelling w) (place p a))) = d.below e' in
           ap (λ o. walked enters leaves Region rest (leaves b o)) (inner within at.1 ∙ ap (λ i. cond (are_region_content i (mapped spelling kids)) (Some within) None) at.0)
           ∙ after (are_region_content (without_form (inside_node (mapped_what spelling w) (place p a))) (mapped spelling kids)) (are_region_content (place p a) (mapped spelling rest)) d.back law
+
+-- what a visit makes of what is around, in other words
+pub entered-is : (spelling : ℕ → List ℕ) (f : Forest ℕ) (root : ℕ) (top : Content) (n : ℕ) (a within : Around) (t : Tag) (standing : Standing) (plain : Bool) → t ≡ tag_at n f → within ≡ marked t true a
+    → standing ≡ standing_of root top a (parent_of n f) f → plain ≡ is_plain_at spelling (inside_is standing) n f → cond plain (Some within) None ≡ after_visit spelling f root top (Enter n) a
+entered-is spelling f root top n a within t standing plain named marks stands is =
+    λ i. cond ((is ∙ ap (λ s. is_plain_at spelling (inside_is s) n f) stands) i) (Some ((marks ∙ ap (λ u. marked u true a) named) i)) None
 
 not_phrasing : (c : Content) → is_phrasing c ≡ false → fits c false ≡ true
 not_phrasing content.Phrasing h = absurd cc

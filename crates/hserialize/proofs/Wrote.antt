@@ -1,5 +1,7 @@
 -- What a walk writes.
 use Rattle.hserialize.proofs.Names.{◌≡◌, ℕ, ◌<◌, Bool, true, false, cond, List, [], ◌∷◌, ◌++◌, map, Option, Some, None, refl, sym, ◌∙◌, ap, subst, option_and_then, eqb, eq-eqb, parent_of, append_assoc, append-nil, option_map, Texts, AreNames, text_of, is_void, tag_of, tag_named, What, element, Forest, none, tree, children_of, AreCounted, mapped, mapped_attribute, what_of, name_in, Refusal, goes_in, visits, start_tag_text, end_tag_text, written_among, written, stands_raw, holds_raw, node_name, opening, opening_of, closing_of, Escaping, Visit, Leave, Taken, AddsBytes, Fails, not, raw_kind, mapped_what, has_no_references, is_raw_in, node_text, raw_in, name_around, closing_tag, visit_text, eqb-true, option_map_or, Written, flat_map, flat_map-append}
+use Rattle.hserialize.specs.Vocabulary.{listed}
+use Rattle.hserialize.specs.declared.serializer.Listing.{Listing}
 use Rattle.hserialize.proofs.KnownNames.{tags-agree}
 use Rattle.hserialize.proofs.Output.{HasLeft, none_put, part_put, part_failed, all_put}
 use Rattle.hserialize.proofs.Seen.{Seen, IsSeen, seen}
@@ -78,33 +80,39 @@ module _ (how : Escaping) (texts : ℕ → List ℕ) (f : Forest ℕ) (root : �
         inside : List Visit
         inside = cond (goes_in Written w) (visits Written kids) []
 
--- the text that is to be written
-abbrev pub wanted : Escaping → Texts → Forest ℕ → (root : ℕ) (raw : Bool) → List ℕ
-wanted how names f root raw = written_among how raw (mapped (text_of names) (children_of root f))
+-- the text that the visits that are left write
+abbrev left_text : Listing → List Visit → List ℕ
+left_text l = visits_text l.escaping (text_of l.names.now) l.tree.now.trees l.root l.raw
 
--- the visits that are left write the rest of it
-abbrev pub IsWriting : (how : Escaping) (names : Texts) (f : Forest ℕ) (root : ℕ) (raw : Bool) (old now : Taken) (left : List Visit) → Type 0
-IsWriting how names f root raw old now left = HasLeft old now (wanted how names f root raw) (visits_text how (text_of names) f root raw left)
+-- it is the rest of the list's
+abbrev pub IsWriting : Listing → (old now : Taken) (left : List Visit) → Type 0
+IsWriting l old now left = HasLeft old now (listed l) (left_text l left)
 
-pub begun : (how : Escaping) (names : Texts) (made : ℕ) (f : Forest ℕ) (root : ℕ) (raw : Bool) (old : Taken) (left items : List Visit) → AreNames names → AreCounted made f → root < made → left ≡ items
-    → items ≡ visits Written (children_of root f) → IsWriting how names f root raw old old left
-begun how names made f root raw old left items table counted h same visited = subst (HasLeft old old (wanted how names f root raw)) (sym whole) (none_put old (wanted how names f root raw))
+pub begun : (l : Listing) (old : Taken) (left items : List Visit) → AreNames l.names.now → AreCounted l.tree.now.made l.tree.now.trees → l.root < l.tree.now.made → left ≡ items
+    → items ≡ visits Written (children_of l.root l.tree.now.trees) → IsWriting l old old left
+begun l old left items table counted h same visited = subst (HasLeft old old (listed l)) (sym whole) (none_put old (listed l))
   where
-    whole : visits_text how (text_of names) f root raw left ≡ wanted how names f root raw
-    whole =
-        ap (visits_text how (text_of names) f root raw) (same ∙ visited)
-        ∙ writes how (text_of names) f root raw (tags-agree names table) made root (children_of root f) (seen made f counted root h)
-        ∙ ap (λ u. written_among how (cond u raw (holds_raw (node_name root f))) (mapped (text_of names) (children_of root f))) (eq-eqb root root refl)
+    f : Forest ℕ
+    f = l.tree.now.trees
 
-module _ (how : Escaping) (names : Texts) (f : Forest ℕ) (root : ℕ) (raw : Bool) (old now : Taken) (v : Visit) (before left : List Visit) (is : before ≡ v ∷ left) (s : IsWriting how names f root raw old now before) where
+    whole : left_text l left ≡ listed l
+    whole =
+        ap (left_text l) (same ∙ visited)
+        ∙ writes l.escaping (text_of l.names.now) f l.root l.raw (tags-agree l.names.now table) l.tree.now.made l.root (children_of l.root f) (seen l.tree.now.made f counted l.root h)
+        ∙ ap (λ u. written_among l.escaping (cond u l.raw (holds_raw (node_name l.root f))) (mapped (text_of l.names.now) (children_of l.root f))) (eq-eqb l.root l.root refl)
+
+module _ (l : Listing) (old now : Taken) (v : Visit) (before left : List Visit) (is : before ≡ v ∷ left) (s : IsWriting l old now before) where
+  abbrev next_text : List ℕ
+  next_text = visit_text l.escaping (text_of l.names.now) l.root l.raw l.tree.now.trees v
+
   -- one visit more
-  pub goes_on : (new : Taken) → AddsBytes now new (visit_text how (text_of names) root raw f v) → IsWriting how names f root raw old new left
-  goes_on new h = part_put old now new _ _ _ _ s (ap (visits_text how (text_of names) f root raw) is) h
+  pub goes_on : (new : Taken) → AddsBytes now new next_text → IsWriting l old new left
+  goes_on new h = part_put old now new _ _ _ _ s (ap (left_text l) is) h
 
   -- one that failed
-  pub failed : (new : Taken) {e : Refusal} → Fails e now new (visit_text how (text_of names) root raw f v) → Fails e old new (wanted how names f root raw)
-  failed new h = part_failed old now new _ _ _ _ s (ap (visits_text how (text_of names) f root raw) is) h
+  pub failed : (new : Taken) {e : Refusal} → Fails e now new next_text → Fails e old new (listed l)
+  failed new h = part_failed old now new _ _ _ _ s (ap (left_text l) is) h
 
 -- the end
-pub wrote : (how : Escaping) (names : Texts) (f : Forest ℕ) (root : ℕ) (raw : Bool) (old now : Taken) (left : List Visit) → left ≡ [] → IsWriting how names f root raw old now left → AddsBytes old now (wanted how names f root raw)
-wrote how names f root raw old now left is s = all_put old now _ _ s (ap (visits_text how (text_of names) f root raw) is)
+pub wrote : (l : Listing) (old now : Taken) (left : List Visit) → left ≡ [] → IsWriting l old now left → AddsBytes old now (listed l)
+wrote l old now left is s = all_put old now _ _ s (ap (left_text l) is)

@@ -60,6 +60,10 @@ abbrev pub Puts : Taken → Taken → List ℕ → Result (Unit {0}) Refusal →
 Puts old new bytes (Ok _) = AddsBytes old new bytes
 Puts old new bytes (Err refusal) = Fails refusal old new bytes
 
+-- the same of writers
+abbrev pub PutsTo : {W : Type 0} → (W → Option (List ℕ)) → (W → ℕ) → Writer W → Writer W → List ℕ → Result (Unit {0}) Refusal → Type 0
+PutsTo written failed old new bytes answer = Puts (written_so_far written failed old) (written_so_far written failed new) bytes answer
+
 -- What was held was handed over, or a call failed.
 abbrev pub EndsOutput : Taken → Taken → Result (Unit {0}) Refusal → Type 0
 EndsOutput old new (Ok _) = (new.name ≡ old.name) × Appends old.bytes new.bytes old.held × (new.failures ≡ old.failures)

@@ -2,13 +2,12 @@
 use Rattle.std.specs.Prelude.{◌≡◌, ◌<◌, ℕ, Bool, true, false, not, ◌&&◌, eqb, List, Option, Some, None, codes, map, option_and_then, if◌then◌else◌}
 use Rattle.names.specs.declared.tag.Tag.{Tag}
 use Rattle.names.specs.declared.tag.Tag.TheVariants as tag
-use Rattle.names.specs.Sets.{is_button}
 use Rattle.names.specs.Tags.{tag_of}
 use Rattle.hnodes.specs.Forest.{Attribute, What, element, comment, text, Forest}
 use Rattle.hnodes.specs.Mapped.{mapped_attribute}
 use Rattle.hnodes.specs.Spots.{first_child_of, node_name, next_of, parent_of, what_of}
 use Rattle.hserialize.specs.ContentTable.{row, takes_role, texts_in, takes_comments}
-use Rattle.hserialize.specs.Plain.{Inside, begins_with, is_plain_name, is_plain_text, is_plain_comment, are_plain_attributes, is_nested, is_a}
+use Rattle.hserialize.specs.Plain.{Inside, begins_with, is_plain_name, is_plain_text, is_plain_comment, are_plain_attributes, is_nested}
 use Rattle.hserialize.specs.Plain.{drops_line_feed}
 use Rattle.hserialize.specs.declared.around.Around.{Around}
 use Rattle.hserialize.specs.declared.around.Standing.{Standing}
@@ -68,11 +67,9 @@ alone = record { in_a = false; in_button = false; in_phrasing = false }
 
 -- what is around once an element of this name is entered, or left: one that inserts a marker is not gone into
 abbrev pub marked : Tag → (inside : Bool) → Around → Around
-marked t inside a = record {
-  in_a = if is_a t then inside else a.in_a;
-  in_button = if is_button t then inside else a.in_button;
-  in_phrasing = if is_phrasing (row t).1 then inside else a.in_phrasing;
-}
+marked tag.A inside a = record a { in_a = inside }
+marked tag.Button inside a = record a { in_button = inside }
+marked t inside a = if is_phrasing (row t).1 then record a { in_phrasing = inside } else a
 
 abbrev pub standing_at_top : Content → Around → Standing
 standing_at_top top around = record { content = top; texts = texts_at_top top; around = around }

@@ -1,15 +1,17 @@
 -- What a visit of a walk writes. Names are numbers, and texts are theirs.
 use Rattle.std.specs.Prelude.{ℕ, Bool, false, eqb, List, [], ◌++◌, Option, Some, None, codes, map, option_and_then, if◌then◌else◌}
-use Rattle.std.specs.Option.{option_map_or}
+use Rattle.std.specs.Option.{option_map, option_map_or}
+use Rattle.names.specs.Names.{text_of}
 use Rattle.names.specs.Sets.{is_void, raw_kind}
 use Rattle.names.specs.Tags.{tag_of}
-use Rattle.hnodes.specs.Forest.{What, document, doctype, element, comment, text, Forest}
-use Rattle.hnodes.specs.Mapped.{mapped_attribute}
+use Rattle.hnodes.specs.Forest.{What, document, doctype, element, comment, text, Forest, children_of, tree_at}
+use Rattle.hnodes.specs.Mapped.{mapped, mapped_attribute}
 use Rattle.hnodes.specs.Spots.{parent_of, node_name, what_of}
 use Rattle.hserialize.specs.Escaping.{escaped}
-use Rattle.hserialize.specs.Written.{has_no_references, start_tag_text, end_tag_text}
+use Rattle.hserialize.specs.Written.{has_no_references, start_tag_text, end_tag_text, written, written_among}
 use Rattle.hserialize.specs.declared.escaping.Escaping.{Escaping}
 use Rattle.hserialize.specs.declared.escaping.Setting.TheVariants.{Text}
+use Rattle.hserialize.specs.declared.serializer.Listing.{Listing}
 use Rattle.hserialize.specs.declared.walk.Visit.{Visit}
 use Rattle.hserialize.specs.declared.walk.Visit.TheVariants.{Enter, Leave}
 
@@ -57,3 +59,18 @@ module _ (escaping : Escaping) (texts : ℕ → List ℕ) where
   abbrev pub visit_text : (root : ℕ) (raw : Bool) → Forest ℕ → Visit → List ℕ
   visit_text root raw f (Enter n) = opening_of (stands_raw root raw n f) (what_of n f)
   visit_text root raw f (Leave n) = closing_of texts (what_of n f)
+
+-- where a node begins in a list that is written, and where it ends
+abbrev pub opening_in : Listing → ℕ → List ℕ
+opening_in l n = opening_of l.escaping (text_of l.names.now) (stands_raw l.root l.raw n l.tree.now.trees) (what_of n l.tree.now.trees)
+
+abbrev pub closing_in : Listing → ℕ → List ℕ
+closing_in l n = closing_of (text_of l.names.now) (what_of n l.tree.now.trees)
+
+-- the list, and the node that it is in with its own tags
+abbrev pub listed : Listing → List ℕ
+listed l = written_among l.escaping l.raw (mapped (text_of l.names.now) (children_of l.root l.tree.now.trees))
+
+abbrev pub outer_text : Listing → List ℕ
+outer_text l =
+    written l.escaping (option_map (text_of l.names.now) (name_around l.root l.tree.now.trees)) (mapped (text_of l.names.now) (tree_at l.root l.tree.now.trees))

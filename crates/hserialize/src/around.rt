@@ -1,7 +1,7 @@
 //! Where a list of trees is.
 
-ghost use Rattle.std.specs.Prelude.{◌≡◌, if◌then◌else◌};
-ghost use Rattle.hserialize.specs.Vocabulary.{is_a, is_button, is_nested, alone, marked, inside_is, standing_in, standing_at_top};
+ghost use Rattle.std.specs.Prelude.{◌≡◌};
+ghost use Rattle.hserialize.specs.Vocabulary.{is_nested, alone, marked, inside_is, standing_in, standing_at_top};
 
 use crate::content::{Content, Texts};
 use crate::content_rows::row;
@@ -14,27 +14,6 @@ pub(crate) struct Around {
     in_button: bool,
     /// Whether it is in an element that takes phrasing elements alone.
     in_phrasing: bool,
-}
-
-/// Whether an element of this name is an a.
-fn is_a(tag: Tag) -> bool
-    ensures { result ≡ is_a tag }
-{
-    matches!(tag, Tag::A)
-}
-
-/// Whether it is a button.
-fn is_button(tag: Tag) -> bool
-    ensures { result ≡ is_button tag }
-{
-    matches!(tag, Tag::Button)
-}
-
-/// `now` where an element changes it, and else what was before.
-fn now_if(changes: bool, now: bool, before: bool) -> bool
-    ensures { result ≡ (if changes then now else before) }
-{
-    if changes { now } else { before }
 }
 
 impl Around {
@@ -54,14 +33,20 @@ impl Around {
     pub(crate) fn marked(self, tag: Tag, inside: bool) -> Around
         ensures { result ≡ marked tag inside self }
     {
-        Around {
-            in_a: now_if(is_a(tag), inside, self.in_a),
-            in_button: now_if(is_button(tag), inside, self.in_button),
-            in_phrasing: now_if(
-                matches!(row(tag).1, Content::Phrasing),
-                inside,
-                self.in_phrasing,
-            ),
+        match tag {
+            Tag::A => Around {
+                in_a: inside,
+                ..self
+            },
+            Tag::Button => Around {
+                in_button: inside,
+                ..self
+            },
+            _ if matches!(row(tag).1, Content::Phrasing) => Around {
+                in_phrasing: inside,
+                ..self
+            },
+            _ => self,
         }
     }
 }

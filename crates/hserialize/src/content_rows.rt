@@ -2,6 +2,7 @@
 
 ghost use Rattle.std.specs.Prelude.{◌≡◌};
 ghost use Rattle.hserialize.specs.ContentTable.{row};
+ghost use Rattle.hserialize.specs.PlainDocument.{is_metadata};
 
 use crate::content::{Content, Role};
 use names::Tag;
@@ -13,58 +14,20 @@ pub(crate) fn row(tag: Tag) -> (Role, Content)
     ensures { result ≡ row tag }
 {
     match tag {
-        A | B | Big | Code | Em | Font | I | S | Small | Strike | Strong | Tt | U => (
-            Role::Phrasing,
-            Content::Around,
-        ),
-        Abbr
-        | Bdi
-        | Bdo
-        | Cite
-        | Data
-        | Del
-        | Dfn
-        | Ins
-        | Kbd
-        | Label
-        | Mark
-        | Output
-        | Q
-        | Samp
-        | Span
-        | Sub
-        | Sup
-        | Time
-        | Var
-        | Button => (Role::Phrasing, Content::Around),
-        Br | Img | Wbr | Embed | Input | Area | Link | Meta | Source | Track => (
-            Role::Phrasing,
-            Content::Empty,
-        ),
+        A | B | Big | Code | Em | Font | I | S | Small => (Role::Phrasing, Content::Around),
+        Strike | Strong | Tt | U | Abbr | Bdi | Bdo | Cite => (Role::Phrasing, Content::Around),
+        Data | Del | Dfn | Ins | Kbd | Label | Mark | Output => (Role::Phrasing, Content::Around),
+        Q | Samp | Span | Sub | Sup | Time | Var | Button => (Role::Phrasing, Content::Around),
+        Br | Img | Wbr | Embed | Input | Area | Link | Meta => (Role::Phrasing, Content::Empty),
+        Source | Track => (Role::Phrasing, Content::Empty),
         Title | Textarea => (Role::Phrasing, Content::Text),
         Style | Iframe | Noembed => (Role::Phrasing, Content::RawText),
         Script => (Role::Phrasing, Content::ScriptText),
         Object | Marquee => (Role::Phrasing, Content::Flow),
-        Address
-        | Article
-        | Aside
-        | Blockquote
-        | Center
-        | Details
-        | Dialog
-        | Div
-        | Fieldset
-        | Figcaption
-        | Figure
-        | Footer
-        | Header
-        | Hgroup
-        | Main
-        | Nav
-        | Search
-        | Section
-        | Summary
-        | Form => (Role::Flow, Content::Flow),
+        Address | Article | Aside | Blockquote | Center | Details => (Role::Flow, Content::Flow),
+        Dialog | Div | Fieldset | Figcaption | Figure | Footer => (Role::Flow, Content::Flow),
+        Header | Hgroup | Main | Nav | Search | Section | Summary => (Role::Flow, Content::Flow),
+        Form => (Role::Flow, Content::Flow),
         P | H1 | H2 | H3 | H4 | H5 | H6 | Pre | Listing => (Role::Flow, Content::Phrasing),
         Hr => (Role::Flow, Content::Empty),
         Ul | Ol | Menu | Dir => (Role::Flow, Content::ListItems),
@@ -81,4 +44,14 @@ pub(crate) fn row(tag: Tag) -> (Role, Content)
         Body => (Role::Nowhere, Content::Flow),
         _ => (Role::Nowhere, Content::Empty),
     }
+}
+
+/// Whether an element of this name may be in the head of a plain document.
+pub(crate) fn is_metadata(tag: Tag) -> bool
+    ensures { result ≡ is_metadata tag }
+{
+    matches!(
+        tag,
+        Base | Basefont | Bgsound | Link | Meta | Script | Style | Title
+    )
 }

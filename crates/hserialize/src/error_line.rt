@@ -1,11 +1,12 @@
 //! The line of an error, put together before it is written: one write is cheaper than four.
 
 ghost use Rattle.std.specs.Prelude.{◌≡◌};
-ghost use Rattle.hserialize.specs.Vocabulary.{error_line, IsLine, Puts, written_so_far};
+ghost use Rattle.hserialize.specs.Vocabulary.{error_line, IsLine, PutsTo};
 
-use crate::{Target, Writer, put};
+use crate::target::Target;
+use crate::writer::{Answer, Writer, put};
 use itoa::write_digits;
-use names::{ErrorCode, ParseError, Refusal};
+use names::{ErrorCode, ParseError};
 
 /// The most digits of an error's place.
 const DIGITS: usize = 20;
@@ -60,9 +61,9 @@ pub(crate) fn put_error<W: Target>(
     out: &mut Writer<'_, W>,
     line: &mut ErrorLine,
     error: &ParseError,
-) -> Result<(), Refusal>
+) -> Answer
     requires { IsLine line.old }
-    ensures text { Puts (written_so_far W.written W.failed out.old) (written_so_far W.written W.failed out.new) (error_line error.now) result }
+    ensures text { PutsTo W.written W.failed out.old out.new (error_line error.now) result }
     ensures line { IsLine line.new }
 {
     line.turn_to(error.code);

@@ -2,12 +2,11 @@
 
 ghost use Rattle.std.specs.Prelude.{◌≡◌, IfSome, None};
 ghost use Rattle.std.specs.Char.{encode_utf8};
-ghost use Rattle.hserialize.specs.Vocabulary.{escaped, written_char, Puts, written_so_far};
+ghost use Rattle.hserialize.specs.Vocabulary.{escaped, written_char, PutsTo};
 
 use crate::escaping::{Escaping, Setting};
 use crate::target::Target;
-use crate::writer::{Writer, put, put_before};
-use names::Refusal;
+use crate::writer::{Answer, Writer, put, put_before};
 
 /// What is written for a character that is not written as it is.
 fn reference(ch: char, escaping: Escaping, setting: Setting) -> Option<&'static str>
@@ -30,8 +29,8 @@ pub(crate) fn put_escaped<W: Target>(
     source: &str,
     escaping: Escaping,
     setting: Setting,
-) -> Result<(), Refusal>
-    ensures { Puts (written_so_far W.written W.failed out.old) (written_so_far W.written W.failed out.new) (escaped escaping setting source.now) result }
+) -> Answer
+    ensures { PutsTo W.written W.failed out.old out.new (escaped escaping setting source.now) result }
 {
     let bytes = source.as_bytes();
     // What is before is written.

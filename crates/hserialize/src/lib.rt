@@ -19,7 +19,7 @@ mod serializer;
 mod sorted;
 pub mod target;
 pub mod walk;
-pub mod writer;
+mod writer;
 
 pub use content::{Content, Role, Texts};
 pub use escaping::Escaping;
@@ -34,4 +34,3 @@ pub use serializer::{
 };
 pub use target::{Target, write_all};
 pub use walk::{Reach, TreeWalk, Visit, inserts_marker};
-pub use writer::{Writer, put, put_parts, room};

@@ -1,38 +1,25 @@
 //! Trees and errors as they are printed.
 
-ghost use Rattle.std.specs.Prelude.{◌≡◌, ◌++◌, ◌<◌, ◌≤◌, ◌^◌, ◌&&◌, ℕ, codes, flat_map, length, map, vec_capacity, OnOk};
-ghost use Rattle.std.specs.List.{repeat};
+ghost use Rattle.std.specs.Prelude.{◌≡◌, ◌++◌, ◌<◌, ◌≤◌, ◌^◌, ◌&&◌, ℕ, codes, flat_map, map, vec_capacity, OnOk};
 ghost use Rattle.std.specs.String.{string_bytes};
-ghost use Rattle.hserialize.specs.Vocabulary.{text_of, children_of, element, what_of, mapped, mapped_what, pair_of, indented, attribute_line, identifiers, node_lines, error_lines, tree_text, HoldsBytes, IsFlushed, Puts, WritesText, written_so_far, attribute_count, printed_lines, is_empty_text};
+ghost use Rattle.hserialize.specs.Vocabulary.{text_of, children_of, what_of, mapped, pair_of, indented, attribute_line, identifiers, error_lines, tree_text, HoldsBytes, IsFlushed, PutsTo, WritesText, attribute_count, printed_lines, is_empty_text};
 
 use crate::error_line::{ErrorLine, put_error};
 use crate::sorted::{NamedAttr, in_order};
-use crate::{Gathered, NodeView, Reach, Target, TreeWalk, Visit, Writer, put, put_parts, room};
-use hnodes::{Attrs, DocumentType, NodeId, Tree};
-use names::{NameId, Names, ParseError, Refusal};
+use crate::writer::{Answer, Writer, put, put_parts, room};
+use crate::{Gathered, NodeView, Reach, Target, TreeWalk, Visit};
+use hnodes::{DocumentType, NodeId, Tree};
+use names::{Names, ParseError, Refusal};
 use std::alloc::Global;
 
-/// Begins a line at a depth.
-fn begin_line<W: Target>(out: &mut Writer<'_, W>, depth: usize) -> Result<(), Refusal>
-    ensures { Puts (written_so_far W.written W.failed out.old) (written_so_far W.written W.failed out.new) (codes "| " ++ repeat depth (codes "  ")) result }
+/// Writes a line of these parts.
+fn put_line<W: Target>(out: &mut Writer<'_, W>, depth: usize, parts: &[&[u8]]) -> Answer
+    ensures { PutsTo W.written W.failed out.old out.new (indented depth (flat_map (λ p. p.now) parts.now)) result }
 {
     put(out, b"| ")?;
     for level in 0..depth {
         put(out, b"  ")?;
     }
-    Ok(())
-}
-
-/// Writes a line of these parts.
-fn put_line<W: Target>(
-    out: &mut Writer<'_, W>,
-    depth: usize,
-    parts: &[&[u8]],
-) -> Result<(), Refusal>
-    ensures { Puts (written_so_far W.written W.failed out.old) (written_so_far W.written W.failed out.new)
-        (indented depth (flat_map (λ p. p.now) parts.now)) result }
-{
-    begin_line(out, depth)?;
     put_parts(out, parts)?;
     put(out, b"\n")
 }
@@ -42,35 +29,14 @@ fn put_attributes<W: Target>(
     out: &mut Writer<'_, W>,
     depth: usize,
     entries: &[NamedAttr<'_>],
-) -> Result<(), Refusal>
-    ensures { Puts (written_so_far W.written W.failed out.old) (written_so_far W.written W.failed out.new)
-        (flat_map (attribute_line depth) (map pair_of entries.now)) result }
+) -> Answer
+    ensures { PutsTo W.written W.failed out.old out.new (flat_map (attribute_line depth) (map pair_of entries.now)) result }
 {
     for entry in entries {
         let (name, value) = (entry.0.as_bytes(), entry.2.as_bytes());
         put_line(out, depth, &[name, b"=\"", value, b"\""])?;
     }
     Ok(())
-}
-
-/// Writes the lines of an element and its attributes.
-fn put_element<'a, W: Target>(
-    out: &mut Writer<'_, W>,
-    entries: &mut Vec<NamedAttr<'a>>,
-    names: &'a Names,
-    depth: usize,
-    name: NameId,
-    attrs: Attrs<'a>,
-) -> Result<(), Refusal>
-    requires deep { depth < 2 ^ 33 }
-    requires room { length attrs ≤ vec_capacity entries.old }
-    ensures text { Puts (written_so_far W.written W.failed out.old) (written_so_far W.written W.failed out.new)
-        (node_lines depth (mapped_what (text_of names.now) (element name attrs.entry))) result }
-    ensures room { vec_capacity entries.old ≤ vec_capacity entries.new }
-{
-    put_line(out, depth, &[b"<", names.text(name).as_bytes(), b">"])?;
-    in_order(entries, names, attrs);
-    put_attributes(out, depth + 1, entries)
 }
 
 /// Whether a doctype has no identifier.
@@ -81,32 +47,19 @@ fn has_none(public_id: &str, system_id: &str) -> bool
 }
 
 /// Writes the line of a doctype.
-fn put_doctype<W: Target>(
-    out: &mut Writer<'_, W>,
-    depth: usize,
-    texts: &DocumentType,
-) -> Result<(), Refusal>
-    ensures { Puts (written_so_far W.written W.failed out.old) (written_so_far W.written W.failed out.new)
-        (indented depth (codes "<!DOCTYPE " ++ string_bytes texts.now.name
+fn put_doctype<W: Target>(out: &mut Writer<'_, W>, depth: usize, texts: &DocumentType) -> Answer
+    ensures { PutsTo W.written W.failed out.old out.new (indented depth (codes "<!DOCTYPE " ++ string_bytes texts.now.name
         ++ identifiers (string_bytes texts.now.public_id) (string_bytes texts.now.system_id) ++ codes ">")) result }
 {
-    let name = texts.name.as_bytes();
+    let (front, name): (&[u8], &[u8]) = (b"<!DOCTYPE ", texts.name.as_bytes());
     if has_none(&texts.public_id, &texts.system_id) {
-        return put_line(out, depth, &[b"<!DOCTYPE ", name, b">"]);
+        return put_line(out, depth, &[front, name, b">"]);
     }
     let (public_id, system_id) = (texts.public_id.as_bytes(), texts.system_id.as_bytes());
     put_line(
         out,
         depth,
-        &[
-            b"<!DOCTYPE ",
-            name,
-            b" \"",
-            public_id,
-            b"\" \"",
-            system_id,
-            b"\">",
-        ],
+        &[front, name, b" \"", public_id, b"\" \"", system_id, b"\">"],
     )
 }
 
@@ -118,18 +71,21 @@ fn put_node<'a, W: Target>(
     names: &'a Names,
     depth: usize,
     node: NodeId,
-) -> Result<(), Refusal>
+) -> Answer
     requires deep { depth < 2 ^ 33 }
     requires room { attribute_count (what_of node tree.now.trees) ≤ vec_capacity entries.old }
     requires made { node < tree.now.made }
-    ensures text { Puts (written_so_far W.written W.failed out.old) (written_so_far W.written W.failed out.new)
-        (printed_lines (text_of names.now) depth (what_of node tree.now.trees)) result }
+    ensures text { PutsTo W.written W.failed out.old out.new (printed_lines (text_of names.now) depth (what_of node tree.now.trees)) result }
     ensures room { vec_capacity entries.old ≤ vec_capacity entries.new }
 {
     match NodeView::of(tree, node) {
         NodeView::Document => Ok(()),
         NodeView::Doctype(texts) => put_doctype(out, depth, texts),
-        NodeView::Element(name, attrs) => put_element(out, entries, names, depth, name, attrs),
+        NodeView::Element(name, attrs) => {
+            put_line(out, depth, &[b"<", names.text(name).as_bytes(), b">"])?;
+            in_order(entries, names, attrs);
+            put_attributes(out, depth + 1, entries)
+        }
         NodeView::Comment(data) => put_line(out, depth, &[b"<!-- ", data.as_bytes(), b" -->"]),
         NodeView::Text(data) => put_line(out, depth, &[b"\"", data.as_bytes(), b"\""]),
     }
@@ -166,11 +122,10 @@ fn put_nodes<'a, W: Target>(
     tree: &'a Tree,
     names: &'a Names,
     root: NodeId,
-) -> Result<(), Refusal>
+) -> Answer
     requires made { root < tree.now.made }
     requires room { (n : ℕ) → n < tree.now.made → attribute_count (what_of n tree.now.trees) ≤ vec_capacity entries.old }
-    ensures { Puts (written_so_far W.written W.failed out.old) (written_so_far W.written W.failed out.new)
-        (tree_text (mapped (text_of names.now) (children_of root tree.now.trees))) result }
+    ensures { PutsTo W.written W.failed out.old out.new (tree_text (mapped (text_of names.now) (children_of root tree.now.trees))) result }
 {
     let mut depth = 0;
     for visit in TreeWalk::new(tree, root, Reach::Whole) {
@@ -222,8 +177,8 @@ pub fn tree_text(
 }
 
 /// Writes the lines of errors. Nothing is handed on.
-fn put_errors<W: Target>(out: &mut Writer<'_, W>, errors: &[ParseError]) -> Result<(), Refusal>
-    ensures { Puts (written_so_far W.written W.failed out.old) (written_so_far W.written W.failed out.new) (error_lines errors.now) result }
+fn put_errors<W: Target>(out: &mut Writer<'_, W>, errors: &[ParseError]) -> Answer
+    ensures { PutsTo W.written W.failed out.old out.new (error_lines errors.now) result }
 {
     let Some(first) = errors.first() else {
         return Ok(());

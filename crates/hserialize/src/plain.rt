@@ -1,8 +1,7 @@
 //! Whether a list of trees is plain.
 
-ghost use Rattle.std.specs.Prelude.{◌≡◌, ◌<◌, ◌&&◌, ◌||◌, IfSome, Some, false, map};
-ghost use Rattle.std.specs.List.{list_all};
-ghost use Rattle.hserialize.specs.Vocabulary.{text_of, has_plain_name, are_clean, tag_of, children_of, mapped, mapped_attribute, attributes_of, first_child_of, parent_of, are_plain_attributes, is_form_element, is_plain, drops_line_feed, are_region_content, form_after, in_region, tag_at, standing_of, inside_is, is_phrasing, is_text_at, begins_at, is_plain_element, is_plain_at, after_visit, visited_node};
+ghost use Rattle.std.specs.Prelude.{◌≡◌, ◌<◌, IfSome, Some, false, map};
+ghost use Rattle.hserialize.specs.Vocabulary.{text_of, children_of, mapped, mapped_attribute, attributes_of, parent_of, are_plain_attributes, is_form_element, is_plain, drops_line_feed, are_region_content, form_after, in_region, tag_at, standing_of, inside_is, is_phrasing, is_text_at, begins_at, is_plain_at, visited_node};
 
 use crate::around::{Around, Standing};
 use crate::content::Content;
@@ -11,7 +10,7 @@ use crate::plain_names::PlainNames;
 use crate::plain_texts::{begins_with, is_plain_comment, is_plain_text};
 use crate::{NodeView, Reach, TreeWalk, Visit, inserts_marker};
 use hnodes::{Attrs, NodeId, NodeKind, Tree};
-use names::{NameId, Names, Tag};
+use names::{Names, Tag};
 
 /// The known name of an element; `Tag::Other` for another node.
 fn tag_at(tree: &Tree, node: NodeId) -> Tag
@@ -67,15 +66,6 @@ fn drops_line_feed(tag: Tag) -> bool
     matches!(tag, Tag::Pre | Tag::Listing | Tag::Textarea)
 }
 
-/// Whether each attribute of an element is plain by itself.
-fn all_plain_attributes(tree: &Tree, names: &PlainNames, node: NodeId, attrs: Attrs) -> bool
-    requires made { node < tree.now.made }
-    requires own { attributes_of node tree.now.trees ≡ Some attrs }
-    ensures { result ≡ (list_all (has_plain_name (text_of names.now)) attrs.entry && are_clean attrs.entry) }
-{
-    names.are_plain(tree.attr_names_end(node), attrs) && tree.attrs_clean(node)
-}
-
 /// Whether the attributes of an element are plain.
 pub(crate) fn are_plain_attributes(
     tree: &Tree,
@@ -91,28 +81,10 @@ pub(crate) fn are_plain_attributes(
     if attrs.len() == 0 {
         return true;
     }
-    all_plain_attributes(tree, names, node, attrs) && tree.attrs_differ(node)
-}
-
-/// Whether an element is plain by itself.
-fn is_plain_element(
-    tree: &Tree,
-    names: &PlainNames,
-    standing: Standing,
-    node: NodeId,
-    name: NameId,
-    attrs: Attrs,
-) -> bool
-    requires made { node < tree.now.made }
-    requires own { attributes_of node tree.now.trees ≡ Some attrs }
-    ensures { result ≡ is_plain_element (text_of names.now) (inside_is standing) (tag_of name) attrs.entry
-        (begins_at (first_child_of node tree.now.trees) tree.now.trees) }
-{
-    let tag = name.tag();
-    standing.content.takes_role(row(tag).0)
-        && !standing.is_nested(tag)
-        && are_plain_attributes(tree, names, node, attrs)
-        && !(drops_line_feed(tag) && begins_with_line_feed(tree, tree.first_child(node)))
+    if !names.are_plain(tree.attr_names_end(node), attrs) {
+        return false;
+    }
+    tree.attrs_clean(node) && tree.attrs_differ(node)
 }
 
 /// Whether a node is plain by itself, before its siblings.
@@ -121,36 +93,18 @@ fn is_plain_node(tree: &Tree, names: &PlainNames, standing: Standing, node: Node
     ensures { result ≡ is_plain_at (text_of names.now) (inside_is standing) node tree.now.trees }
 {
     match NodeView::of(tree, node) {
-        NodeView::Element(name, attrs) => is_plain_element(
-            tree, names, standing, node, name, attrs,
-        ),
+        NodeView::Element(name, attrs) => {
+            let tag = name.tag();
+            standing.content.takes_role(row(tag).0)
+                && !standing.is_nested(tag)
+                && are_plain_attributes(tree, names, node, attrs)
+                && !(drops_line_feed(tag) && begins_with_line_feed(tree, tree.first_child(node)))
+        }
         NodeView::Text(text) => {
             is_plain_text(standing.texts, text) && !is_text(tree, tree.next(node))
         }
         NodeView::Comment(data) => standing.content.takes_comments() && is_plain_comment(data),
         NodeView::Document | NodeView::Doctype(_) => false,
-    }
-}
-
-/// What is around the nodes of a region that come after a visit; None if what is visited is not plain.
-fn after_visit(
-    tree: &Tree,
-    names: &PlainNames,
-    root: NodeId,
-    top: Content,
-    around: Around,
-    visit: Visit,
-) -> Option<Around>
-    requires { visited_node visit < tree.now.made }
-    ensures { result ≡ after_visit (text_of names.now) tree.now.trees root top visit around }
-{
-    match visit {
-        Visit::Enter(node) => {
-            let standing = standing_of(tree, root, top, around, node);
-            let marked = around.marked(tag_at(tree, node), true);
-            is_plain_node(tree, names, standing, node).then_some(marked)
-        }
-        Visit::Leave(node) => Some(around.marked(tag_at(tree, node), false)),
     }
 }
 
@@ -164,9 +118,15 @@ fn is_plain_region(tree: &Tree, names: &PlainNames, root: NodeId, top: Content) 
     prove!(names.are_names());
     let mut around = Around::alone();
     for visit in TreeWalk::new(tree, root, Reach::Region) {
-        match after_visit(tree, names, root, top, around, visit) {
-            Some(after) => around = after,
-            None => return false,
+        match visit {
+            Visit::Enter(node) => {
+                let standing = standing_of(tree, root, top, around, node);
+                if !is_plain_node(tree, names, standing, node) {
+                    return false;
+                }
+                around = around.marked(tag_at(tree, node), true);
+            }
+            Visit::Leave(node) => around = around.marked(tag_at(tree, node), false),
         }
     }
     true

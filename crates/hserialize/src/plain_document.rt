@@ -1,16 +1,16 @@
 //! Whether a document is plain.
 
 ghost use Rattle.std.specs.Prelude.{◌≡◌, ◌<◌, IfSome, Some};
-ghost use Rattle.hserialize.specs.Vocabulary.{are_in_html, attributes_of, body_on, children_of, html_on, is_head_at, is_last_at, is_leaf_at, is_metadata, is_metadata_at, is_metadata_what, is_named_what, is_plain_doctype_at, is_plain_document, is_text_alone, mapped, text_of, trees_from, what_of, element, ArePassed, IsDoctypePassed};
+ghost use Rattle.hserialize.specs.Vocabulary.{are_in_html, children_of, is_head_at, is_last_at, is_leaf_at, is_metadata_at, is_named_what, is_plain_doctype_at, is_plain_document, is_text_alone, mapped, text_of, what_of, ArePassed, IsDoctypePassed};
 
 use crate::NodeView;
 use crate::content::Texts;
-use crate::content_rows::row;
+use crate::content_rows::{is_metadata, row};
 use crate::plain::{are_plain_attributes, is_plain_list, is_text};
 use crate::plain_names::PlainNames;
 use crate::plain_texts::{is_plain_comment, is_plain_text};
-use hnodes::{Attrs, NodeId, Tree};
-use names::{NameId, Names, Tag};
+use hnodes::{NodeId, Tree};
+use names::Names;
 
 /// Whether a node is a plain comment, or a plain text that may be where these may, before its siblings.
 fn is_leaf(tree: &Tree, allowed: Texts, node: NodeId) -> bool
@@ -113,48 +113,18 @@ fn is_text_alone(tree: &Tree, allowed: Texts, node: Option<NodeId>) -> bool
     }
 }
 
-/// Whether an element of this name may be in the head of a plain document.
-fn is_metadata(tag: Tag) -> bool
-    ensures { result ≡ is_metadata tag }
-{
-    matches!(
-        tag,
-        Tag::Base
-            | Tag::Basefont
-            | Tag::Bgsound
-            | Tag::Link
-            | Tag::Meta
-            | Tag::Script
-            | Tag::Style
-            | Tag::Title
-    )
-}
-
-/// Whether an element may be in the head of a plain document.
-fn is_metadata_element(
-    tree: &Tree,
-    names: &PlainNames,
-    node: NodeId,
-    name: NameId,
-    attrs: Attrs,
-) -> bool
-    requires made { node < tree.now.made }
-    requires own { attributes_of node tree.now.trees ≡ Some attrs }
-    ensures { result ≡ is_metadata_what (text_of names.now) node tree.now.trees (Some (element name attrs.entry)) }
-{
-    let tag = name.tag();
-    is_metadata(tag)
-        && are_plain_attributes(tree, names, node, attrs)
-        && is_text_alone(tree, row(tag).1.texts(), tree.first_child(node))
-}
-
 /// Whether a node may be in the head of a plain document.
 fn is_metadata_node(tree: &Tree, names: &PlainNames, node: NodeId) -> bool
     requires { node < tree.now.made }
     ensures { result ≡ is_metadata_at (text_of names.now) node tree.now.trees }
 {
     match NodeView::of(tree, node) {
-        NodeView::Element(name, attrs) => is_metadata_element(tree, names, node, name, attrs),
+        NodeView::Element(name, attrs) => {
+            let tag = name.tag();
+            is_metadata(tag)
+                && are_plain_attributes(tree, names, node, attrs)
+                && is_text_alone(tree, row(tag).1.texts(), tree.first_child(node))
+        }
         _ => is_leaf(tree, Texts::WhiteSpace, node),
     }
 }
@@ -178,18 +148,6 @@ fn is_head(tree: &Tree, names: &PlainNames, head: NodeId) -> bool
     true
 }
 
-/// Whether a node is the body of a plain document, and comments alone follow it.
-fn is_body_on(tree: &Tree, names: &PlainNames, node: Option<NodeId>) -> bool
-    requires { IfSome node (λ n. n < tree.now.made) }
-    ensures { result ≡ body_on (mapped (text_of names.now) (trees_from node tree.now.trees)) }
-{
-    prove!(tree.are_nodes());
-    let Some(body) = node else {
-        return false;
-    };
-    is_last(tree, names, body, "body") && is_plain_list(tree, names, body, "body")
-}
-
 /// Whether the children of a node are those of html in a plain document.
 fn is_html(tree: &Tree, names: &PlainNames, html: NodeId) -> bool
     requires { html < tree.now.made }
@@ -199,20 +157,13 @@ fn is_html(tree: &Tree, names: &PlainNames, html: NodeId) -> bool
     let Some(head) = past_leaves(tree, Texts::None, tree.first_child(html)) else {
         return false;
     };
-    let body = past_leaves(tree, Texts::WhiteSpace, tree.next(head));
-    is_head(tree, names, head) && is_body_on(tree, names, body)
-}
-
-/// Whether a node is the html of a plain document, and comments alone follow it.
-fn is_html_on(tree: &Tree, names: &PlainNames, node: Option<NodeId>) -> bool
-    requires { IfSome node (λ n. n < tree.now.made) }
-    ensures { result ≡ html_on (mapped (text_of names.now) (trees_from node tree.now.trees)) }
-{
-    prove!(tree.are_nodes());
-    let Some(html) = node else {
+    let Some(body) = past_leaves(tree, Texts::WhiteSpace, tree.next(head)) else {
         return false;
     };
-    is_last(tree, names, html, "html") && is_html(tree, names, html)
+    if !is_head(tree, names, head) {
+        return false;
+    }
+    is_last(tree, names, body, "body") && is_plain_list(tree, names, body, "body")
 }
 
 /// Whether the children of a node are those of a plain document: they come back from the parser as they are. Takes no memory, and as
@@ -224,6 +175,8 @@ pub fn is_plain_document(tree: &Tree, names: &Names, root: NodeId) -> bool
     prove!(tree.are_nodes());
     let names = PlainNames::of(names);
     let first = past_leaves(tree, Texts::None, tree.first_child(root));
-    let html = past_leaves(tree, Texts::None, past_doctype(tree, first));
-    is_html_on(tree, &names, html)
+    let Some(html) = past_leaves(tree, Texts::None, past_doctype(tree, first)) else {
+        return false;
+    };
+    is_last(tree, &names, html, "html") && is_html(tree, &names, html)
 }

@@ -2,7 +2,7 @@
 
 ghost use Rattle.std.specs.Prelude.{◌≡◌, ◌<◌, map, Some, OnOk};
 ghost use Rattle.std.specs.Option.{option_map};
-ghost use Rattle.hserialize.specs.Vocabulary.{text_of, children_of, tree_at, mapped, mapped_attribute, node_name, what_of, HoldsBytes, IsFlushed, Puts, WritesText, written_so_far, attribute_text, start_tag_text, written, written_among, has_no_references, holds_raw, raw_kind, stands_raw, name_around, opening_of, closing_of, Text};
+ghost use Rattle.hserialize.specs.Vocabulary.{text_of, children_of, tree_at, mapped, mapped_attribute, node_name, HoldsBytes, IsFlushed, PutsTo, WritesText, attribute_text, start_tag_text, written, has_no_references, holds_raw, raw_kind, stands_raw, name_around, opening_in, closing_in, listed, outer_text, Text};
 
 use crate::escaped::put_escaped;
 use crate::escaping::{Escaping, Setting};
@@ -10,43 +10,10 @@ use crate::gathered::Gathered;
 use crate::node_view::NodeView;
 use crate::target::Target;
 use crate::walk::{Reach, TreeWalk, Visit, goes_in};
-use crate::writer::{Writer, put, put_before, put_between, room};
+use crate::writer::{Answer, Writer, put, put_before, put_between, room};
 use hnodes::{Attrs, NodeId, Tree};
 use names::{NameId, Names, RawKind, Refusal, Tag};
 use std::alloc::Global;
-
-/// Writes an attribute.
-fn put_attribute<W: Target>(
-    out: &mut Writer<'_, W>,
-    escaping: Escaping,
-    name: &str,
-    value: &str,
-) -> Result<(), Refusal>
-    ensures { Puts (written_so_far W.written W.failed out.old) (written_so_far W.written W.failed out.new)
-        (attribute_text escaping (name.now, value.now)) result }
-{
-    put_between(out, b" ", name, b"=\"")?;
-    put_escaped(out, value, escaping, Setting::Value)?;
-    put(out, b"\"")
-}
-
-/// Writes a start tag.
-fn put_start_tag<W: Target>(
-    out: &mut Writer<'_, W>,
-    escaping: Escaping,
-    names: &Names,
-    name: NameId,
-    attrs: Attrs,
-) -> Result<(), Refusal>
-    ensures { Puts (written_so_far W.written W.failed out.old) (written_so_far W.written W.failed out.new)
-        (start_tag_text escaping (text_of names.now name) (map (mapped_attribute (text_of names.now)) attrs.entry)) result }
-{
-    put_before(out, b"<", names.text(name))?;
-    for (name, value) in attrs {
-        put_attribute(out, escaping, names.text(name), value)?;
-    }
-    put(out, b">")
-}
 
 /// Whether the texts in an element of this name are written as they are.
 fn is_raw(tag: Tag) -> bool
@@ -71,149 +38,127 @@ fn holds_raw(tree: &Tree, node: NodeId) -> bool
 
 /// A list of trees that is written: the children of a node, and whether the texts among them are written as they are.
 #[derive(Drop)]
-pub(crate) struct Listing {
+struct Listing<'a> {
+    tree: &'a Tree,
+    names: &'a Names,
+    escaping: Escaping,
     root: NodeId,
     raw: bool,
 }
 
-impl Listing {
-    /// As the node's own name says.
-    fn own(tree: &Tree, root: NodeId) -> Listing
-        requires { root < tree.now.made }
-        ensures root { result.root ≡ root }
-        ensures raw { result.raw ≡ holds_raw (node_name root tree.now.trees) }
+impl<'a> Listing<'a> {
+    /// Whether texts next to a node are written as they are: as the list says, and inside its trees by the name of what they are in.
+    fn stands_raw(&self, node: NodeId) -> bool
+        requires { node < self.now.tree.now.made }
+        ensures { result ≡ stands_raw self.now.root self.now.raw node self.now.tree.now.trees }
     {
-        Listing {
-            root,
-            raw: holds_raw(tree, root),
+        match self.tree.parent(node) {
+            Some(parent) if parent == self.root => self.raw,
+            Some(parent) => holds_raw(self.tree, parent),
+            None => false,
         }
     }
-}
 
-/// Whether texts next to a node are written as they are: as the list says, and inside its trees by the name of what they are in.
-fn stands_raw(tree: &Tree, list: &Listing, node: NodeId) -> bool
-    requires { node < tree.now.made }
-    ensures { result ≡ stands_raw list.now.root list.now.raw node tree.now.trees }
-{
-    match tree.parent(node) {
-        Some(parent) if parent == list.root => list.raw,
-        Some(parent) => holds_raw(tree, parent),
-        None => false,
+    /// Writes an attribute.
+    fn put_attribute<W: Target>(&self, out: &mut Writer<'_, W>, name: &str, value: &str) -> Answer
+        ensures { PutsTo W.written W.failed out.old out.new (attribute_text self.now.escaping (name.now, value.now)) result }
+    {
+        put_between(out, b" ", name, b"=\"")?;
+        put_escaped(out, value, self.escaping, Setting::Value)?;
+        put(out, b"\"")
     }
-}
 
-/// Writes where a node begins.
-fn put_opening<W: Target>(
-    out: &mut Writer<'_, W>,
-    escaping: Escaping,
-    tree: &Tree,
-    names: &Names,
-    list: &Listing,
-    node: NodeId,
-) -> Result<(), Refusal>
-    requires { node < tree.now.made }
-    ensures { Puts (written_so_far W.written W.failed out.old) (written_so_far W.written W.failed out.new)
-        (opening_of escaping (text_of names.now) (stands_raw list.now.root list.now.raw node tree.now.trees) (what_of node tree.now.trees))
-        result }
-{
-    match NodeView::of(tree, node) {
-        NodeView::Document => Ok(()),
-        NodeView::Doctype(texts) => put_between(out, b"<!DOCTYPE ", &texts.name, b">"),
-        NodeView::Element(name, attrs) => put_start_tag(out, escaping, names, name, attrs),
-        NodeView::Comment(data) => put_between(out, b"<!--", data, b"-->"),
-        NodeView::Text(data) => {
-            if stands_raw(tree, list, node) {
-                put(out, data.as_bytes())
-            } else {
-                put_escaped(out, data, escaping, Setting::Text)
+    /// Writes a start tag.
+    fn put_start_tag<W: Target>(
+        &self,
+        out: &mut Writer<'_, W>,
+        name: NameId,
+        attrs: Attrs,
+    ) -> Answer
+        ensures { PutsTo W.written W.failed out.old out.new
+            (start_tag_text self.now.escaping (text_of self.now.names.now name) (map (mapped_attribute (text_of self.now.names.now)) attrs.entry)) result }
+    {
+        put_before(out, b"<", self.names.text(name))?;
+        for (name, value) in attrs {
+            self.put_attribute(out, self.names.text(name), value)?;
+        }
+        put(out, b">")
+    }
+
+    /// Writes where a node begins.
+    fn put_opening<W: Target>(&self, out: &mut Writer<'_, W>, node: NodeId) -> Answer
+        requires { node < self.now.tree.now.made }
+        ensures { PutsTo W.written W.failed out.old out.new (opening_in self.now node) result }
+    {
+        match NodeView::of(self.tree, node) {
+            NodeView::Document => Ok(()),
+            NodeView::Doctype(texts) => put_between(out, b"<!DOCTYPE ", &texts.name, b">"),
+            NodeView::Element(name, attrs) => self.put_start_tag(out, name, attrs),
+            NodeView::Comment(data) => put_between(out, b"<!--", data, b"-->"),
+            NodeView::Text(data) => {
+                if self.stands_raw(node) {
+                    put(out, data.as_bytes())
+                } else {
+                    put_escaped(out, data, self.escaping, Setting::Text)
+                }
             }
         }
     }
-}
 
-/// Writes where a node ends.
-fn put_closing<W: Target>(
-    out: &mut Writer<'_, W>,
-    tree: &Tree,
-    names: &Names,
-    node: NodeId,
-) -> Result<(), Refusal>
-    requires { node < tree.now.made }
-    ensures { Puts (written_so_far W.written W.failed out.old) (written_so_far W.written W.failed out.new)
-        (closing_of (text_of names.now) (what_of node tree.now.trees)) result }
-{
-    match NodeView::of(tree, node) {
-        NodeView::Element(name, _) if !name.tag().is_void() => {
-            put_between(out, b"</", names.text(name), b">")
-        }
-        _ => Ok(()),
-    }
-}
-
-/// Writes a list of trees. Nothing is handed on.
-fn put_list<W: Target>(
-    out: &mut Writer<'_, W>,
-    escaping: Escaping,
-    tree: &Tree,
-    names: &Names,
-    list: &Listing,
-) -> Result<(), Refusal>
-    requires { list.now.root < tree.now.made }
-    ensures { Puts (written_so_far W.written W.failed out.old) (written_so_far W.written W.failed out.new)
-        (written_among escaping list.now.raw (mapped (text_of names.now) (children_of list.now.root tree.now.trees))) result }
-{
-    prove!(names.are_names());
-    for visit in TreeWalk::new(tree, list.root, Reach::Written) {
-        match visit {
-            Visit::Enter(node) => put_opening(out, escaping, tree, names, list, node)?,
-            Visit::Leave(node) => put_closing(out, tree, names, node)?,
+    /// Writes where a node ends.
+    fn put_closing<W: Target>(&self, out: &mut Writer<'_, W>, node: NodeId) -> Answer
+        requires { node < self.now.tree.now.made }
+        ensures { PutsTo W.written W.failed out.old out.new (closing_in self.now node) result }
+    {
+        match NodeView::of(self.tree, node) {
+            NodeView::Element(name, _) if !name.tag().is_void() => {
+                put_between(out, b"</", self.names.text(name), b">")
+            }
+            _ => Ok(()),
         }
     }
-    Ok(())
-}
 
-/// Writes a node and what is in it. Nothing is handed on.
-fn put_outer<W: Target>(
-    out: &mut Writer<'_, W>,
-    escaping: Escaping,
-    tree: &Tree,
-    names: &Names,
-    node: NodeId,
-) -> Result<(), Refusal>
-    requires { node < tree.now.made }
-    ensures { Puts (written_so_far W.written W.failed out.old) (written_so_far W.written W.failed out.new)
-        (written escaping (option_map (text_of names.now) (name_around node tree.now.trees))
-        (mapped (text_of names.now) (tree_at node tree.now.trees))) result }
-{
-    prove!(names.are_names());
-    prove!(tree.are_nodes());
-    let list = Listing::own(tree, node);
-    put_opening(out, escaping, tree, names, &list, node)?;
-    if goes_in(tree, Reach::Written, node) {
-        put_list(out, escaping, tree, names, &list)?;
+    /// Writes the list. Nothing is handed on.
+    fn put_list<W: Target>(&self, out: &mut Writer<'_, W>) -> Answer
+        requires { self.now.root < self.now.tree.now.made }
+        ensures { PutsTo W.written W.failed out.old out.new (listed self.now) result }
+    {
+        prove!(self.names.are_names());
+        for visit in TreeWalk::new(self.tree, self.root, Reach::Written) {
+            match visit {
+                Visit::Enter(node) => self.put_opening(out, node)?,
+                Visit::Leave(node) => self.put_closing(out, node)?,
+            }
+        }
+        Ok(())
     }
-    put_closing(out, tree, names, node)
-}
 
-/// Writes a list of trees as text, and flushes.
-fn write_list<W: Target>(
-    alloc: Global,
-    tree: &Tree,
-    names: &Names,
-    list: &Listing,
-    escaping: Escaping,
-    target: &mut W,
-) -> Result<(), Refusal>
-    requires { list.now.root < tree.now.made }
-    ensures text { WritesText W.written W.failed
-        (written_among escaping list.now.raw (mapped (text_of names.now) (children_of list.now.root tree.now.trees)))
-        target.old target.new result }
-    ensures flushed { OnOk result (IsFlushed W.flushes target.new) }
-{
-    let mut held = room(alloc)?;
-    let mut out = Writer::new(target, &mut held);
-    put_list(&mut out, escaping, tree, names, list)?;
-    out.finish()
+    /// Writes the node and what is in it, where the list is its own. Nothing is handed on.
+    fn put_outer<W: Target>(&self, out: &mut Writer<'_, W>) -> Answer
+        requires made { self.now.root < self.now.tree.now.made }
+        requires own { self.now.raw ≡ holds_raw (node_name self.now.root self.now.tree.now.trees) }
+        ensures { PutsTo W.written W.failed out.old out.new (outer_text self.now) result }
+    {
+        prove!(self.names.are_names());
+        prove!(self.tree.are_nodes());
+        self.put_opening(out, self.root)?;
+        if goes_in(self.tree, Reach::Written, self.root) {
+            self.put_list(out)?;
+        }
+        self.put_closing(out, self.root)
+    }
+
+    /// Writes the list as text, and flushes.
+    fn write<W: Target>(&self, alloc: Global, target: &mut W) -> Answer
+        requires { self.now.root < self.now.tree.now.made }
+        ensures text { WritesText W.written W.failed (listed self.now) target.old target.new result }
+        ensures flushed { OnOk result (IsFlushed W.flushes target.new) }
+    {
+        let mut held = room(alloc)?;
+        let mut out = Writer::new(target, &mut held);
+        self.put_list(&mut out)?;
+        out.finish()
+    }
 }
 
 /// Writes the children of a node as text, by the HTML fragment serialization algorithm (`#html-fragment-serialisation-algorithm`), and
@@ -235,14 +180,14 @@ pub fn serialize<W: Target>(
     ensures flushed { OnOk result (IsFlushed W.flushes target.new) }
 {
     prove!(names.are_names());
-    write_list(
-        alloc,
+    let list = Listing {
         tree,
         names,
-        &Listing::own(tree, node),
         escaping,
-        target,
-    )
+        root: node,
+        raw: holds_raw(tree, node),
+    };
+    list.write(alloc, target)
 }
 
 /// The text that [`serialize`] writes. An error is `Memory`.
@@ -280,10 +225,13 @@ pub fn serialize_in<W: Target>(
     ensures flushed { OnOk result (IsFlushed W.flushes target.new) }
 {
     let list = Listing {
+        tree,
+        names,
+        escaping,
         root: node,
         raw: is_raw(Tag::named(name)),
     };
-    write_list(alloc, tree, names, &list, escaping, target)
+    list.write(alloc, target)
 }
 
 /// The text that [`serialize_in`] writes. An error is `Memory`.
@@ -318,9 +266,16 @@ pub fn serialize_outer<W: Target>(
         target.old target.new result }
     ensures flushed { OnOk result (IsFlushed W.flushes target.new) }
 {
+    let list = Listing {
+        tree,
+        names,
+        escaping,
+        root: node,
+        raw: holds_raw(tree, node),
+    };
     let mut held = room(alloc)?;
     let mut out = Writer::new(target, &mut held);
-    put_outer(&mut out, escaping, tree, names, node)?;
+    list.put_outer(&mut out)?;
     out.finish()
 }
 

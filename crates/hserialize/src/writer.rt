@@ -1,24 +1,27 @@
 //! Bytes to a target by way of a buffer, part by part.
 
 ghost use Rattle.std.specs.Prelude.{◌≡◌, ◌+◌, ◌++◌, ◌≤◌, [], IfOk, OnOk, flat_map, length, vec_capacity};
-ghost use Rattle.hserialize.specs.Output.{AddsBytes, EndsOutput, IsFlushed, Puts, written_so_far};
+ghost use Rattle.hserialize.specs.Output.{AddsBytes, EndsOutput, IsFlushed, PutsTo, written_so_far};
 
 use crate::target::{Target, write_all};
 use names::Refusal;
 use std::alloc::{AllocError, Global};
+
+/// What a function that writes by way of a buffer returns.
+pub(crate) type Answer = Result<(), Refusal>;
 
 /// How many bytes are held.
 const ROOM: usize = 65536;
 
 /// A target, and bytes that it is yet to be handed. Their memory is taken once: no write takes any.
 #[derive(Drop)]
-pub struct Writer<'t, W> {
+pub(crate) struct Writer<'t, W> {
     target: &'t mut W,
     held: &'t mut Vec<u8>,
 }
 
 /// The memory of what is held.
-pub fn room(alloc: Global) -> Result<Vec<u8>, AllocError>
+pub(crate) fn room(alloc: Global) -> Result<Vec<u8>, AllocError>
     ensures { IfOk result (λ room. room.items ≡ []) }
 {
     Vec::with_capacity(alloc, ROOM)
@@ -26,7 +29,7 @@ pub fn room(alloc: Global) -> Result<Vec<u8>, AllocError>
 
 impl<'t, W: Target> Writer<'t, W> {
     /// Nothing is held yet.
-    pub fn new(target: &'t mut W, held: &'t mut Vec<u8>) -> Writer<'t, W>
+    pub(crate) fn new(target: &'t mut W, held: &'t mut Vec<u8>) -> Writer<'t, W>
         ensures name { result.target.ghost_name ≡ target.entry.ghost_name }
         ensures same { result.target.now ≡ target.old }
         ensures held { result.held.now ≡ held.old }
@@ -35,8 +38,8 @@ impl<'t, W: Target> Writer<'t, W> {
     }
 
     /// Hands over what is held.
-    fn hand_over(&mut self) -> Result<(), Refusal>
-        ensures put { Puts (written_so_far W.written W.failed self.old) (written_so_far W.written W.failed self.new) [] result }
+    fn hand_over(&mut self) -> Answer
+        ensures put { PutsTo W.written W.failed self.old self.new [] result }
         ensures none { OnOk result (self.new.held.now.items ≡ []) }
         ensures room { vec_capacity self.new.held.now ≡ vec_capacity self.old.held.now }
     {
@@ -46,7 +49,7 @@ impl<'t, W: Target> Writer<'t, W> {
     }
 
     /// Hands over what is held, and flushes the target.
-    pub fn finish(&mut self) -> Result<(), Refusal>
+    pub(crate) fn finish(&mut self) -> Answer
         ensures ends { EndsOutput (written_so_far W.written W.failed self.old) (written_so_far W.written W.failed self.new) result }
         ensures flushed { OnOk result (IsFlushed W.flushes self.new.target.now) }
     {
@@ -72,8 +75,8 @@ fn hold<W: Target>(out: &mut Writer<'_, W>, bytes: &[u8])
 /// Writes all of the bytes, for which there is no room with those that are held.
 #[cold]
 #[inline(never)]
-fn put_past<W: Target>(out: &mut Writer<'_, W>, bytes: &[u8]) -> Result<(), Refusal>
-    ensures { Puts (written_so_far W.written W.failed out.old) (written_so_far W.written W.failed out.new) bytes.now result }
+fn put_past<W: Target>(out: &mut Writer<'_, W>, bytes: &[u8]) -> Answer
+    ensures { PutsTo W.written W.failed out.old out.new bytes.now result }
 {
     out.hand_over()?;
     if bytes.len() > out.held.capacity() {
@@ -85,8 +88,8 @@ fn put_past<W: Target>(out: &mut Writer<'_, W>, bytes: &[u8]) -> Result<(), Refu
 
 /// Writes all of the bytes.
 #[inline]
-pub fn put<W: Target>(out: &mut Writer<'_, W>, bytes: &[u8]) -> Result<(), Refusal>
-    ensures { Puts (written_so_far W.written W.failed out.old) (written_so_far W.written W.failed out.new) bytes.now result }
+pub(crate) fn put<W: Target>(out: &mut Writer<'_, W>, bytes: &[u8]) -> Answer
+    ensures { PutsTo W.written W.failed out.old out.new bytes.now result }
 {
     if bytes.len() > out.held.capacity() - out.held.len() {
         return put_past(out, bytes);
@@ -96,8 +99,8 @@ pub fn put<W: Target>(out: &mut Writer<'_, W>, bytes: &[u8]) -> Result<(), Refus
 }
 
 /// Writes these parts, one after another.
-pub fn put_parts<W: Target>(out: &mut Writer<'_, W>, parts: &[&[u8]]) -> Result<(), Refusal>
-    ensures { Puts (written_so_far W.written W.failed out.old) (written_so_far W.written W.failed out.new) (flat_map (λ p. p.now) parts.now) result }
+pub(crate) fn put_parts<W: Target>(out: &mut Writer<'_, W>, parts: &[&[u8]]) -> Answer
+    ensures { PutsTo W.written W.failed out.old out.new (flat_map (λ p. p.now) parts.now) result }
 {
     for part in parts {
         put(out, part)?;
@@ -107,12 +110,8 @@ pub fn put_parts<W: Target>(out: &mut Writer<'_, W>, parts: &[&[u8]]) -> Result<
 
 /// Writes bytes, and then a text.
 #[inline(always)]
-pub(crate) fn put_before<W: Target>(
-    out: &mut Writer<'_, W>,
-    before: &[u8],
-    text: &str,
-) -> Result<(), Refusal>
-    ensures { Puts (written_so_far W.written W.failed out.old) (written_so_far W.written W.failed out.new) (before.now ++ text.now) result }
+pub(crate) fn put_before<W: Target>(out: &mut Writer<'_, W>, before: &[u8], text: &str) -> Answer
+    ensures { PutsTo W.written W.failed out.old out.new (before.now ++ text.now) result }
 {
     put_parts(out, &[before, text.as_bytes()])
 }
@@ -124,8 +123,8 @@ pub(crate) fn put_between<W: Target>(
     before: &[u8],
     text: &str,
     after: &[u8],
-) -> Result<(), Refusal>
-    ensures { Puts (written_so_far W.written W.failed out.old) (written_so_far W.written W.failed out.new) (before.now ++ text.now ++ after.now) result }
+) -> Answer
+    ensures { PutsTo W.written W.failed out.old out.new (before.now ++ text.now ++ after.now) result }
 {
     put_parts(out, &[before, text.as_bytes(), after])
 }

@@ -1,6 +1,6 @@
 use Rattle.hserialize.proofs.Names.{◌∙◌, ap, rules}
 use Rattle.hserialize.proofs.Finished.{cut_short, finished}
-use Rattle.hserialize.proofs.serializer.write_list.Goals as goal
+use Rattle.hserialize.proofs.serializer.Listing.write.Goals as goal
 
 pub returns-in_err-put_list-clause-text : goal.returns-in_err-put_list-clause-text
 returns-in_err-put_list-clause-text g c =

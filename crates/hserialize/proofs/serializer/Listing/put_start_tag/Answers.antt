@@ -1,6 +1,6 @@
 use Rattle.hserialize.proofs.Names.{◌≡◌, ◌∙◌, ℕ, List, [], ◌∷◌, ◌++◌, codes, map, sym, ap, append_assoc, flat_map, rules, text_of, Attribute, mapped_attribute, attribute_text, start_tag_text, Escaping}
 use Rattle.hserialize.proofs.Output.{none_put, part_put, part_failed, last_put, passed_on}
-use Rattle.hserialize.proofs.serializer.put_start_tag.Goals as goal
+use Rattle.hserialize.proofs.serializer.Listing.put_start_tag.Goals as goal
 
 -- the text of the next attribute, and of those after it
 next-text : (f : Attribute ℕ → Attribute (List ℕ)) (g : Attribute (List ℕ) → List ℕ) (attrs : List (Attribute ℕ)) (x : Attribute ℕ) (rest : List (Attribute ℕ)) (a : Attribute (List ℕ)) (end : List ℕ) → attrs ≡ x ∷ rest → a ≡ f x
@@ -20,7 +20,7 @@ pub returns-in_err-put_attribute : goal.returns-in_err-put_attribute
 returns-in_err-put_attribute g c =
     let step : c.loop-name.name-iterator ≡ (c.in-Some.name, c.in-Some.value.now) ∷ c.next.new.self = search rules in
     passed_on _ _ _ _ c.from_residual-in_err-put_attribute.ensures.1
-    (part_failed _ _ _ _ _ _ _ c.loop-name.invariant.2 (next-text (mapped_attribute (text_of c.args.names.now)) (attribute_text c.args.escaping) c.loop-name.name-iterator (c.in-Some.name, c.in-Some.value.now) c.next.new.self (c.text-in-loop-name.result.now, c.in-Some.value.now) (codes ">") step
+    (part_failed _ _ _ _ _ _ _ c.loop-name.invariant.2 (next-text (mapped_attribute (text_of c.args.self.now.names.now)) (attribute_text c.args.self.now.escaping) c.loop-name.name-iterator (c.in-Some.name, c.in-Some.value.now) c.next.new.self (c.text-in-loop-name.result.now, c.in-Some.value.now) (codes ">") step
     (λ i. (c.text-in-loop-name.ensures.text i, c.in-Some.value.now))) c.in_err-put_attribute.ensures)
 
 pub loop-name-preserved : goal.loop-name-preserved
@@ -28,11 +28,11 @@ loop-name-preserved g c =
     let step : c.loop-name.name-iterator ≡ (c.in-Some.name, c.in-Some.value.now) ∷ c.next.new.self = search rules in (
       tt,
       tt,
-      part_put _ _ _ _ _ _ _ c.loop-name.invariant.2 (next-text (mapped_attribute (text_of c.args.names.now)) (attribute_text c.args.escaping) c.loop-name.name-iterator (c.in-Some.name, c.in-Some.value.now) c.next.new.self (c.text-in-loop-name.result.now, c.in-Some.value.now) (codes ">") step
+      part_put _ _ _ _ _ _ _ c.loop-name.invariant.2 (next-text (mapped_attribute (text_of c.args.self.now.names.now)) (attribute_text c.args.self.now.escaping) c.loop-name.name-iterator (c.in-Some.name, c.in-Some.value.now) c.next.new.self (c.text-in-loop-name.result.now, c.in-Some.value.now) (codes ">") step
           (λ i. (c.text-in-loop-name.ensures.text i, c.in-Some.value.now))) c.in_ok-put_attribute.ensures,
     )
 
 pub returns : goal.returns
 returns g c =
     let none : c.loop-name.name-iterator ≡ [] = search rules in
-    last_put _ _ _ _ _ _ _ c.loop-name.invariant.2 (ap (λ l. flat_map (attribute_text c.args.escaping) (map (mapped_attribute (text_of c.args.names.now)) l) ++ codes ">") none) c.put.ensures
+    last_put _ _ _ _ _ _ _ c.loop-name.invariant.2 (ap (λ l. flat_map (attribute_text c.args.self.now.escaping) (map (mapped_attribute (text_of c.args.self.now.names.now)) l) ++ codes ">") none) c.put.ensures

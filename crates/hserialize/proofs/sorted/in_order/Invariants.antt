@@ -1,5 +1,5 @@
 use Rattle.hserialize.proofs.Names.{◌≡◌, ◌≤◌, ◌+◌, ◌++◌, length, map, vec_capacity, text_of, mapped_attribute, AreEntriesNumbered, pair_of}
-use Rattle.hserialize.proofs.sorted.enter.Given as goal
+use Rattle.hserialize.proofs.sorted.in_order.Given as goal
 
 -- the entries so far and those to come are all of them
 abbrev pub invariant-loop-name : goal.invariant-loop-name
