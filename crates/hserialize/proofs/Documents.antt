@@ -1,6 +1,6 @@
 -- What is tested of a plain document is what its definition asks.
-use Rattle.hserialize.proofs.Names.{◌≡◌, ℕ, ◌<◌, Bool, true, false, not, cond, List, [], Some, None, refl, sym, ◌∙◌, ap, arith, ◌&&◌, map, option_map, Option, tag_of, tag_named, Tag, AreCounted, What, element, doctype, comment, text, Forest, none, tree, children_of, mapped, mapped_what, mapped_attribute, Spot, spot_of, first_or, first_child_of, next_of, what_of, row, takes_role, texts_in, Inside, inside_element, inside_node, are_plain_attributes, codes, IfSome, bytes_eq, is_some, is_none, takes_comments, tree_in, trees_from, past_leaves, ArePassed, IsDoctypePassed, is_plain_doctype_what, is_plain_doctype_at, is_leaf_what, is_leaf_at, is_last_text, is_text_alone, is_metadata_what, is_metadata_at, is_named_what, is_last_at, is_head_at, are_content, begins_with_text, is_plain_text, ends_document, is_leaf, leaves_then, comments_then, doctype_then, element_then, is_metadata, inside_head, are_metadata, are_in_html, body_on, html_on, is_plain_document, is_text_node, is_text_at, is_empty_text, Role}
-use Rattle.hserialize.proofs.Following.{IsFirst, first-at, first-made, children-from}
+use Rattle.hserialize.proofs.Names.{◌≡◌, ℕ, ◌<◌, Bool, true, false, not, cond, List, [], Some, None, refl, sym, ◌∙◌, ap, arith, ◌&&◌, map, option_map, Option, tag_of, tag_named, Tag, AreCounted, What, element, doctype, comment, text, Forest, none, tree, children_of, mapped, mapped_what, mapped_attribute, Spot, spot_of, first_or, first_child_of, next_of, what_of, row, takes_role, texts_in, Inside, inside_element, inside_node, are_plain_attributes, codes, IfSome, bytes_eq, is_some, is_none, takes_comments, tree_in, trees_from, past_leaves, ArePassed, IsDoctypePassed, is_plain_doctype_what, is_plain_doctype_at, is_leaf_what, is_leaf_at, is_last_text, is_text_alone, is_metadata_what, is_metadata_at, is_named_what, is_last_at, is_head_at, are_content, begins_with_text, is_plain_text, ends_document, is_leaf, leaves_then, comments_then, doctype_then, element_then, is_metadata, inside_head, are_metadata, are_in_html, body_on, html_on, is_plain_document, is_text_node, is_text_at, is_empty_text, Role, join, join-assoc, list_all, roots}
+use Rattle.hserialize.proofs.Following.{IsFirst, child, child-made, first-at, first-made, children-from}
 use Rattle.hserialize.specs.declared.content.Texts.{Texts as Allowed}
 use Rattle.hserialize.specs.declared.content.Texts.TheVariants as texts
 use Rattle.names.specs.declared.tag.Tag.TheVariants as tag
@@ -244,3 +244,15 @@ module _ (spelling : ℕ → List ℕ) (f : Forest ℕ) where
               ∙ ap (λ (u : Tag). (is_metadata u && are_plain_attributes (map (mapped_attribute spelling) attrs)
               && is_text_alone (texts_in (row u).1) (first_child_of n f) f) && are_metadata (mapped spelling a.rest)) (sym (tags name))
           go w l = ap (λ u. u && are_metadata (mapped spelling a.rest)) (sym l)
+
+      metadata-from : (q : ℕ) (L g : Forest ℕ) → q < made → children_of q f ≡ join L g → are_metadata (mapped spelling g) ≡ list_all (λ n. is_metadata_at spelling n f) (roots g)
+      metadata-from q L none h is = refl
+      metadata-from q L (tree b w k R) h is =
+          let here : trees_from (Some b) f ≡ tree b w k R = child made f counted q b w L k R h is in
+          let a = child-made made f counted q b w L k R is in
+          let after : trees_from (next_of b f) f ≡ R = (first-at made f counted b a).after ∙ (let same = sym (first-at made f counted b a).trees ∙ here in cc) in
+          ap (λ g. are_metadata (mapped spelling g)) (sym here) ∙ metadata-step b a
+          ∙ (λ i. is_metadata_at spelling b f && (ap (λ g. are_metadata (mapped spelling g)) after ∙ metadata-from q (join L (tree b w k none)) R h (is ∙ sym (join-assoc L (tree b w k none) R))) i)
+
+      pub all-metadata : (q : ℕ) → q < made → are_metadata (mapped spelling (children_of q f)) ≡ list_all (λ n. is_metadata_at spelling n f) (roots (children_of q f))
+      all-metadata q h = metadata-from q none (children_of q f) h refl

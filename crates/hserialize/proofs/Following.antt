@@ -1,5 +1,5 @@
 -- A node with the siblings after it, and what is asked of it.
-use Rattle.hserialize.proofs.Names.{◌≡◌, ℕ, ◌<◌, Some, None, refl, sym, ◌∙◌, ap, subst, arith, eq-eqb, ◌∷◌, length, option_and_then, option_map, ◌⊎◌, inl, inr, Option, What, Forest, none, tree, join, times, children_of, Spot, spot_of, first_or, first_child_of, next_of, what_of, AreCounted, child-spot, is-there, was-made, at-most, spot-children, some_inj, join-assoc, IfSome, roots, root-spot, one-there, children-among, first_child-is, times-join, level, Here, Below, tree_in, trees_from}
+use Rattle.hserialize.proofs.Names.{◌≡◌, ℕ, ◌<◌, Some, None, refl, sym, ◌∙◌, ap, subst, arith, eq-eqb, ◌∷◌, length, option_and_then, option_map, ◌⊎◌, inl, inr, Option, What, Forest, none, tree, join, times, children_of, Spot, spot_of, first_or, first_child_of, next_of, what_of, AreCounted, child-spot, is-there, was-made, at-most, spot-children, some_inj, join-assoc, IfSome, roots, root-spot, children-among, first_child-is, times-join, level, Here, Below, tree_in, trees_from}
 
 -- node n, with what is inside it and after it
 pub record IsFirst (n : ℕ) (f : Forest ℕ) : Type 0 where
@@ -15,14 +15,13 @@ pub record IsFirst (n : ℕ) (f : Forest ℕ) : Type 0 where
 
 module _ (made : ℕ) (f : Forest ℕ) (counted : AreCounted made f) where
   -- a child, and the siblings after it
-  child : (q b : ℕ) (w : What ℕ) (L k R : Forest ℕ) → q < made → children_of q f ≡ join L (tree b w k R) → trees_from (Some b) f ≡ tree b w k R
-  child q b w L k R h is = ap (tree_in b) (child-spot b q w L k R f (is-there made f counted q h) once is)
-    where
-      some : 0 < times b (join L (tree b w k R))
-      some = rw (times-join b L (tree b w k R), eq-eqb b b refl) (omega arith)
+  pub child-made : (q b : ℕ) (w : What ℕ) (L k R : Forest ℕ) → children_of q f ≡ join L (tree b w k R) → b < made
+  child-made q b w L k R is =
+      let some : 0 < times b (children_of q f) = rw (is, times-join b L (tree b w k R), eq-eqb b b refl) (omega arith) in
+      was-made made f counted b (omega (arith, some, children-among b q f))
 
-      once : times b f ≡ 1
-      once = let there : 0 < times b (children_of q f) = rw is some in one-there made f counted b (omega (arith, children-among b q f))
+  pub child : (q b : ℕ) (w : What ℕ) (L k R : Forest ℕ) → q < made → children_of q f ≡ join L (tree b w k R) → trees_from (Some b) f ≡ tree b w k R
+  child q b w L k R h is = ap (tree_in b) (child-spot b q w L k R f (is-there made f counted q h) (is-there made f counted b (child-made q b w L k R is)) is)
 
   siblings : (q : ℕ) (L g : Forest ℕ) → q < made → children_of q f ≡ join L g → trees_from (first_or g None) f ≡ g
   siblings q L none h is = refl
@@ -37,8 +36,7 @@ module _ (made : ℕ) (f : Forest ℕ) (counted : AreCounted made f) where
     where
       go : (g : Forest ℕ) → children_of q f ≡ g → IfSome (first_or g None) (λ c. c < made)
       go none e = tt
-      go (tree b w k R) e = was-made made f counted b
-          (let some : 0 < times b (children_of q f) = rw (e, eq-eqb b b refl) (omega arith) in omega (arith, children-among b q f))
+      go (tree b w k R) e = child-made q b w none k R e
 
   pub first-at : (n : ℕ) → n < made → IsFirst n f
   first-at n h = go (level n f (is-there made f counted n h) (at-most made f counted))

@@ -1,7 +1,7 @@
 //! Where a list of trees is.
 
 ghost use Rattle.std.specs.Prelude.{◌≡◌};
-ghost use Rattle.hserialize.specs.Vocabulary.{is_nested, alone, marked, inside_is, standing_in, standing_at_top};
+ghost use Rattle.hserialize.specs.Vocabulary.{is_nested, marked, inside_is, standing_in, standing_at_top};
 
 use crate::content::{Content, Texts};
 use crate::content_rows::row;
@@ -18,15 +18,11 @@ pub(crate) struct Around {
 
 impl Around {
     /// Nothing is around it.
-    pub(crate) fn alone() -> Around
-        ensures { result ≡ alone }
-    {
-        Around {
-            in_a: false,
-            in_button: false,
-            in_phrasing: false,
-        }
-    }
+    pub(crate) const ALONE: Around = Around {
+        in_a: false,
+        in_button: false,
+        in_phrasing: false,
+    };
 
     /// The same once an element of this name is entered, or left. An a, a button or an element of phrasing content is in none of
     /// its kind unless a marker is between, so leaving it undoes entering it.
@@ -60,22 +56,29 @@ pub(crate) struct Standing {
 }
 
 impl Standing {
-    /// At the top.
+    /// At the top: no texts are among the parts of a table.
     pub(crate) fn at_top(content: Content, around: Around) -> Standing
         ensures { result ≡ standing_at_top content around }
     {
         Standing {
             content,
-            texts: content.texts_at_top(),
+            texts: match content {
+                Content::Flow | Content::Text => Texts::Any,
+                _ => Texts::None,
+            },
             around,
         }
     }
 
-    /// In an element of this name.
+    /// In an element of this name; phrasing elements alone or flow elements too may be around it.
     pub(crate) fn inside(tag: Tag, around: Around) -> Standing
         ensures { result ≡ standing_in tag around }
     {
-        let content = row(tag).1.within(around.in_phrasing);
+        let content = match row(tag).1 {
+            Content::Around if around.in_phrasing => Content::Phrasing,
+            Content::Around => Content::Flow,
+            own => own,
+        };
         Standing {
             content,
             texts: content.texts(),

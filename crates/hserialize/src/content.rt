@@ -1,7 +1,7 @@
 //! The words of the table of plain content.
 
 ghost use Rattle.std.specs.Prelude.{◌≡◌};
-ghost use Rattle.hserialize.specs.Vocabulary.{takes_role, texts_in, takes_comments, content_among, top_content, texts_at_top};
+ghost use Rattle.hserialize.specs.Vocabulary.{takes_role, texts_in, takes_comments, top_content};
 
 /// What an element is among its siblings.
 #[derive(Clone, Copy)]
@@ -127,27 +127,6 @@ impl Content {
             Content::TableParts | Content::TableRows | Content::Cells => Some(self),
             Content::Text | Content::RawText | Content::ScriptText => Some(Content::Text),
             Content::Columns | Content::Empty => None,
-        }
-    }
-
-    /// The texts of such a list: none among the parts of a table.
-    pub(crate) fn texts_at_top(self) -> Texts
-        ensures { result ≡ texts_at_top self }
-    {
-        match self {
-            Content::Flow | Content::Text => Texts::Any,
-            _ => Texts::None,
-        }
-    }
-
-    /// The content of an element, where phrasing elements alone may be around it or flow elements too.
-    pub(crate) fn within(self, in_phrasing: bool) -> Content
-        ensures { result ≡ content_among in_phrasing self }
-    {
-        match self {
-            Content::Around if in_phrasing => Content::Phrasing,
-            Content::Around => Content::Flow,
-            own => own,
         }
     }
 }

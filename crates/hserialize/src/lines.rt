@@ -91,25 +91,16 @@ fn put_node<'a, W: Target>(
     }
 }
 
-/// How many attributes a node has.
-fn attribute_count(tree: &Tree, node: NodeId) -> usize
-    requires { node < tree.now.made }
-    ensures { result ≡ attribute_count (what_of node tree.now.trees) }
-{
-    match NodeView::of(tree, node) {
-        NodeView::Element(_, attrs) => attrs.len(),
-        _ => 0,
-    }
-}
-
 /// The most attributes that a node has.
 fn most_attributes(tree: &Tree) -> usize
     ensures { (n : ℕ) → n < tree.now.made → attribute_count (what_of n tree.now.trees) ≤ result }
 {
     let mut most = 0;
     for index in 0..tree.made() as usize {
-        if let Some(node) = tree.node(index) {
-            most = most.max(attribute_count(tree, node));
+        if let Some(node) = tree.node(index)
+            && let NodeView::Element(_, attrs) = NodeView::of(tree, node)
+        {
+            most = most.max(attrs.len());
         }
     }
     most

@@ -75,9 +75,9 @@ pub(crate) fn are_plain_attributes(
 ) -> bool
     requires made { node < tree.now.made }
     requires own { attributes_of node tree.now.trees ≡ Some attrs }
-    ensures { result ≡ are_plain_attributes (map (mapped_attribute (text_of names.now)) attrs.entry) }
+    ensures { result ≡ are_plain_attributes (map (mapped_attribute (text_of names.now.table.now)) attrs.entry) }
 {
-    prove!(names.are_names());
+    prove!(names.table.are_names());
     if attrs.len() == 0 {
         return true;
     }
@@ -90,7 +90,7 @@ pub(crate) fn are_plain_attributes(
 /// Whether a node is plain by itself, before its siblings.
 fn is_plain_node(tree: &Tree, names: &PlainNames, standing: Standing, node: NodeId) -> bool
     requires { node < tree.now.made }
-    ensures { result ≡ is_plain_at (text_of names.now) (inside_is standing) node tree.now.trees }
+    ensures { result ≡ is_plain_at (text_of names.now.table.now) (inside_is standing) node tree.now.trees }
 {
     match NodeView::of(tree, node) {
         NodeView::Element(name, attrs) => {
@@ -113,10 +113,10 @@ fn is_plain_node(tree: &Tree, names: &PlainNames, standing: Standing, node: Node
 fn is_plain_region(tree: &Tree, names: &PlainNames, root: NodeId, top: Content) -> bool
     requires made { root < tree.now.made }
     requires not_phrasing { is_phrasing top ≡ false }
-    ensures { result ≡ are_region_content (in_region top) (mapped (text_of names.now) (children_of root tree.now.trees)) }
+    ensures { result ≡ are_region_content (in_region top) (mapped (text_of names.now.table.now) (children_of root tree.now.trees)) }
 {
-    prove!(names.are_names());
-    let mut around = Around::alone();
+    prove!(names.table.are_names());
+    let mut around = Around::ALONE;
     for visit in TreeWalk::new(tree, root, Reach::Region) {
         match visit {
             Visit::Enter(node) => {
@@ -143,7 +143,7 @@ fn is_form_element(tag: Tag) -> bool
 /// that inserts a marker is not its content.
 fn form_after(tree: &Tree, names: &PlainNames, in_form: bool, visit: Visit) -> Option<bool>
     requires { visited_node visit < tree.now.made }
-    ensures { result ≡ form_after (text_of names.now) tree.now.trees visit in_form }
+    ensures { result ≡ form_after (text_of names.now.table.now) tree.now.trees visit in_form }
 {
     match visit {
         Visit::Enter(node) => {
@@ -163,7 +163,7 @@ fn form_after(tree: &Tree, names: &PlainNames, in_form: bool, visit: Visit) -> O
 /// Whether the children of a node are a plain list in an element of this name.
 pub(crate) fn is_plain_list(tree: &Tree, names: &PlainNames, root: NodeId, context: &str) -> bool
     requires { root < tree.now.made }
-    ensures { result ≡ is_plain context.now (mapped (text_of names.now) (children_of root tree.now.trees)) }
+    ensures { result ≡ is_plain context.now (mapped (text_of names.now.table.now) (children_of root tree.now.trees)) }
 {
     let tag = Tag::named(context);
     let Some(top) = row(tag).1.at_top() else {
@@ -172,7 +172,7 @@ pub(crate) fn is_plain_list(tree: &Tree, names: &PlainNames, root: NodeId, conte
     if !is_plain_region(tree, names, root, top) {
         return false;
     }
-    prove!(names.are_names());
+    prove!(names.table.are_names());
     let mut in_form = is_form_element(tag);
     for visit in TreeWalk::new(tree, root, Reach::Whole) {
         match form_after(tree, names, in_form, visit) {

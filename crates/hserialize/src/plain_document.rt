@@ -77,11 +77,11 @@ fn is_plain_doctype(tree: &Tree, node: NodeId) -> bool
 /// Whether a node is an element of this name whose attributes are plain.
 fn is_named(tree: &Tree, names: &PlainNames, node: NodeId, expected: &str) -> bool
     requires { node < tree.now.made }
-    ensures { result ≡ is_named_what (text_of names.now) expected.now (what_of node tree.now.trees) }
+    ensures { result ≡ is_named_what (text_of names.now.table.now) expected.now (what_of node tree.now.trees) }
 {
     match NodeView::of(tree, node) {
         NodeView::Element(name, attrs) => {
-            names.text(name) == expected && are_plain_attributes(tree, names, node, attrs)
+            names.table.text(name) == expected && are_plain_attributes(tree, names, node, attrs)
         }
         _ => false,
     }
@@ -90,7 +90,7 @@ fn is_named(tree: &Tree, names: &PlainNames, node: NodeId, expected: &str) -> bo
 /// Whether a node is such an element, and comments alone follow it.
 fn is_last(tree: &Tree, names: &PlainNames, node: NodeId, expected: &str) -> bool
     requires { node < tree.now.made }
-    ensures { result ≡ is_last_at (text_of names.now) expected.now node tree.now.trees }
+    ensures { result ≡ is_last_at (text_of names.now.table.now) expected.now node tree.now.trees }
 {
     prove!(tree.are_nodes());
     let after = past_leaves(tree, Texts::None, tree.next(node));
@@ -116,7 +116,7 @@ fn is_text_alone(tree: &Tree, allowed: Texts, node: Option<NodeId>) -> bool
 /// Whether a node may be in the head of a plain document.
 fn is_metadata_node(tree: &Tree, names: &PlainNames, node: NodeId) -> bool
     requires { node < tree.now.made }
-    ensures { result ≡ is_metadata_at (text_of names.now) node tree.now.trees }
+    ensures { result ≡ is_metadata_at (text_of names.now.table.now) node tree.now.trees }
 {
     match NodeView::of(tree, node) {
         NodeView::Element(name, attrs) => {
@@ -132,18 +132,16 @@ fn is_metadata_node(tree: &Tree, names: &PlainNames, node: NodeId) -> bool
 /// Whether a node is the head of a plain document.
 fn is_head(tree: &Tree, names: &PlainNames, head: NodeId) -> bool
     requires { head < tree.now.made }
-    ensures { result ≡ is_head_at (text_of names.now) head tree.now.trees }
+    ensures { result ≡ is_head_at (text_of names.now.table.now) head tree.now.trees }
 {
     if !is_named(tree, names, head, "head") {
         return false;
     }
-    prove!(names.are_names());
-    let mut next = tree.first_child(head);
-    while let Some(node) = next {
+    prove!(names.table.are_names());
+    for node in tree.children(head) {
         if !is_metadata_node(tree, names, node) {
             return false;
         }
-        next = tree.next(node);
     }
     true
 }
@@ -151,7 +149,7 @@ fn is_head(tree: &Tree, names: &PlainNames, head: NodeId) -> bool
 /// Whether the children of a node are those of html in a plain document.
 fn is_html(tree: &Tree, names: &PlainNames, html: NodeId) -> bool
     requires { html < tree.now.made }
-    ensures { result ≡ are_in_html (mapped (text_of names.now) (children_of html tree.now.trees)) }
+    ensures { result ≡ are_in_html (mapped (text_of names.now.table.now) (children_of html tree.now.trees)) }
 {
     prove!(tree.are_nodes());
     let Some(head) = past_leaves(tree, Texts::None, tree.first_child(html)) else {

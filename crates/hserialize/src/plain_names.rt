@@ -1,13 +1,11 @@
 //! Names of attributes that are plain.
 
-ghost use Rattle.std.specs.Prelude.{◌≡◌, true};
+ghost use Rattle.std.specs.Prelude.{◌≡◌};
 ghost use Rattle.std.specs.List.{list_all};
-ghost use Rattle.names.specs.Names.{AreNames};
 ghost use Rattle.hserialize.specs.Vocabulary.{has_plain_name, is_plain_name_byte, is_plain_name, names_end, text_of, ArePlainTo};
 
 use hnodes::Attrs;
-use names::{NameId, Names};
-use std::marker::Model;
+use names::Names;
 
 /// Whether a byte may be in the name of an attribute.
 fn is_plain_name_byte(byte: u8) -> bool
@@ -49,51 +47,26 @@ fn plain_end(names: &Names) -> usize
 /// A table of names, and a number up to which they are all plain.
 #[derive(Drop)]
 pub(crate) struct PlainNames<'a> {
-    names: &'a Names,
+    pub(crate) table: &'a Names,
     end: usize,
-}
-
-impl<'a> Model for PlainNames<'a> {
-    ghost use Rattle.names.specs.Names.{text_of, Texts, AreNames};
-    ghost use Rattle.hserialize.specs.Testing.{ArePlainTo};
-
-    ghost Value = { Texts };
-
-    ghost view = { λ s. s.names.now };
-
-    ghost invariant = { λ s. ArePlainTo (text_of s.names.now) s.end };
+    ghost plain: { ArePlainTo (text_of table.now) end },
 }
 
 impl<'a> PlainNames<'a> {
     /// The names of a table.
-    pub(crate) fn of(names: &'a Names) -> PlainNames<'a>
-        ensures { result ≡ names.now }
+    pub(crate) fn of(table: &'a Names) -> PlainNames<'a>
+        ensures { result.table.now ≡ table.now }
     {
-        let end = plain_end(names);
-        PlainNames { names, end }
-    }
-
-    /// Its texts are distinct, the known ones first: always so, to be said in a `prove!`.
-    pub(crate) fn are_names(&self) -> bool
-        ensures holds { result ≡ true }
-        ensures names { AreNames self.now }
-    {
-        self.names.are_names()
-    }
-
-    /// The text of a name.
-    pub(crate) fn text(&self, name: NameId) -> &str
-        ensures { result.now ≡ text_of self.now name }
-    {
-        self.names.text(name)
+        let end = plain_end(table);
+        PlainNames { table, end }
     }
 
     /// Whether the names of all these attributes, whose numbers end here, are plain.
     pub(crate) fn are_plain(&self, end: usize, attrs: Attrs) -> bool
         requires { end ≡ names_end attrs }
-        ensures { result ≡ list_all (has_plain_name (text_of self.now)) attrs.entry }
+        ensures { result ≡ list_all (has_plain_name (text_of self.now.table.now)) attrs.entry }
     {
-        end <= self.end || have_plain_names(self.names, attrs)
+        end <= self.end || have_plain_names(self.table, attrs)
     }
 }
 

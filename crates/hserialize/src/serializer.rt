@@ -10,7 +10,7 @@ use crate::gathered::Gathered;
 use crate::node_view::NodeView;
 use crate::target::Target;
 use crate::walk::{Reach, TreeWalk, Visit, goes_in};
-use crate::writer::{Answer, Writer, put, put_before, put_between, room};
+use crate::writer::{Answer, Writer, put, put_before, put_parts, room};
 use hnodes::{Attrs, NodeId, Tree};
 use names::{NameId, Names, RawKind, Refusal, Tag};
 use std::alloc::Global;
@@ -63,7 +63,7 @@ impl<'a> Listing<'a> {
     fn put_attribute<W: Target>(&self, out: &mut Writer<'_, W>, name: &str, value: &str) -> Answer
         ensures { PutsTo W.written W.failed out.old out.new (attribute_text self.now.escaping (name.now, value.now)) result }
     {
-        put_between(out, b" ", name, b"=\"")?;
+        put_parts(out, &[b" ", name.as_bytes(), b"=\""])?;
         put_escaped(out, value, self.escaping, Setting::Value)?;
         put(out, b"\"")
     }
@@ -92,9 +92,12 @@ impl<'a> Listing<'a> {
     {
         match NodeView::of(self.tree, node) {
             NodeView::Document => Ok(()),
-            NodeView::Doctype(texts) => put_between(out, b"<!DOCTYPE ", &texts.name, b">"),
+            NodeView::Doctype(texts) => put_parts(
+                out,
+                &[b"<!DOCTYPE ", texts.name.as_bytes(), b">"],
+            ),
             NodeView::Element(name, attrs) => self.put_start_tag(out, name, attrs),
-            NodeView::Comment(data) => put_between(out, b"<!--", data, b"-->"),
+            NodeView::Comment(data) => put_parts(out, &[b"<!--", data.as_bytes(), b"-->"]),
             NodeView::Text(data) => {
                 if self.stands_raw(node) {
                     put(out, data.as_bytes())
@@ -112,7 +115,7 @@ impl<'a> Listing<'a> {
     {
         match NodeView::of(self.tree, node) {
             NodeView::Element(name, _) if !name.tag().is_void() => {
-                put_between(out, b"</", self.names.text(name), b">")
+                put_parts(out, &[b"</", self.names.text(name).as_bytes(), b">"])
             }
             _ => Ok(()),
         }

@@ -115,16 +115,3 @@ pub(crate) fn put_before<W: Target>(out: &mut Writer<'_, W>, before: &[u8], text
 {
     put_parts(out, &[before, text.as_bytes()])
 }
-
-/// Writes a text between bytes.
-#[inline(always)]
-pub(crate) fn put_between<W: Target>(
-    out: &mut Writer<'_, W>,
-    before: &[u8],
-    text: &str,
-    after: &[u8],
-) -> Answer
-    ensures { PutsTo W.written W.failed out.old out.new (before.now ++ text.now ++ after.now) result }
-{
-    put_parts(out, &[before, text.as_bytes(), after])
-}
