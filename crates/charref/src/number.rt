@@ -1,7 +1,7 @@
 //! The characters of numeric references (HTML Standard, from `#numeric-character-reference-state` on).
 
 ghost use Rattle.std.specs.Prelude.{◌≡◌, ◌+◌, ◌*◌, ◌≤◌, ◌<◌, true, false, min, MatchOption};
-ghost use Rattle.charref.specs.Vocabulary.{numbered, number_fault, replaced, replacements, is_surrogate, is_control, digit_value, is_space, is_digit_of, radix};
+ghost use Rattle.charref.specs.Vocabulary.{numbered, number_fault, replaced, replacements, digit_value, is_digit_of, radix};
 
 use names::{ErrorCode, is_noncharacter};
 
@@ -61,56 +61,19 @@ impl Base {
     }
 }
 
-fn is_surrogate(value: u32) -> bool
-    ensures { result ≡ is_surrogate value }
-{
-    0xD800 <= value && value <= 0xDFFF
-}
+/// What each C1 control, from 80 on, is replaced with (`#numeric-character-reference-end-state`): some with themselves.
+const C1_CONTROLS: [u16; 32] = [
+    0x20AC, 0x0081, 0x201A, 0x0192, 0x201E, 0x2026, 0x2020, 0x2021, 0x02C6, 0x2030, 0x0160, 0x2039,
+    0x0152, 0x008D, 0x017D, 0x008F, 0x0090, 0x2018, 0x2019, 0x201C, 0x201D, 0x2022, 0x2013, 0x2014,
+    0x02DC, 0x2122, 0x0161, 0x203A, 0x0153, 0x009D, 0x017E, 0x0178,
+];
 
-fn is_control(value: u32) -> bool
-    ensures { result ≡ is_control value }
-{
-    value < 32 || 127 <= value && value <= 159
-}
-
-fn is_space(value: u32) -> bool
-    ensures { result ≡ is_space value }
-{
-    matches!(value, 9 | 10 | 12 | 13 | 32)
-}
-
-/// The replacement of a C1 control (`#numeric-character-reference-end-state`); any other value is its own.
+/// The replacement of a number; any but a C1 control is its own.
 fn replaced(value: u32) -> u32
     ensures { result ≡ replaced replacements value }
 {
     match value {
-        0x80 => 0x20AC,
-        0x82 => 0x201A,
-        0x83 => 0x0192,
-        0x84 => 0x201E,
-        0x85 => 0x2026,
-        0x86 => 0x2020,
-        0x87 => 0x2021,
-        0x88 => 0x02C6,
-        0x89 => 0x2030,
-        0x8A => 0x0160,
-        0x8B => 0x2039,
-        0x8C => 0x0152,
-        0x8E => 0x017D,
-        0x91 => 0x2018,
-        0x92 => 0x2019,
-        0x93 => 0x201C,
-        0x94 => 0x201D,
-        0x95 => 0x2022,
-        0x96 => 0x2013,
-        0x97 => 0x2014,
-        0x98 => 0x02DC,
-        0x99 => 0x2122,
-        0x9A => 0x0161,
-        0x9B => 0x203A,
-        0x9C => 0x0153,
-        0x9E => 0x017E,
-        0x9F => 0x0178,
+        0x80..=0x9F => u32::from(C1_CONTROLS[value as usize - 0x80]),
         _ => value,
     }
 }
@@ -133,11 +96,11 @@ pub(crate) fn number_fault(value: u32) -> Option<ErrorCode>
         Some(ErrorCode::NullCharacterReference)
     } else if value > 0x10_FFFF {
         Some(ErrorCode::CharacterReferenceOutsideUnicodeRange)
-    } else if is_surrogate(value) {
+    } else if matches!(value, 0xD800..=0xDFFF) {
         Some(ErrorCode::SurrogateCharacterReference)
     } else if is_noncharacter(value) {
         Some(ErrorCode::NoncharacterCharacterReference)
-    } else if value == 13 || is_control(value) && !is_space(value) {
+    } else if matches!(value, 1..=8 | 11 | 13..=31 | 0x7F..=0x9F) {
         Some(ErrorCode::ControlCharacterReference)
     } else {
         None
