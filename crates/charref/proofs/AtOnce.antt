@@ -5,18 +5,17 @@ use Rattle.std.proofs.lemmas.List.{length-take, length-take-le, get_or-take}
 use Rattle.charref.specs.Table.{character_code}
 use Rattle.std.proofs.lemmas.Bool.{cases_lt}
 use Rattle.std.proofs.lemmas.List.Folds.{list_all_at}
-use Rattle.std.specs.Option.{IsNone, MatchOption}
-use Rattle.std.specs.Char.{len_utf8}
+use Rattle.std.specs.Char.{len_utf8, is_ascii_alphanumeric}
 use Rattle.htext.proofs.Parts.{placed-append}
 use Rattle.charref.specs.Walk.{TakesCharacter}
 use Rattle.charref.specs.AtOnce.{HasWhole}
 use Rattle.charref.proofs.Keys.{longest-whole, longest-over, no_longer, begins_itself, begins_later, in_order, whole as whole_key}
 use Rattle.charref.proofs.Core.{once}
-use Rattle.charref.proofs.Naming.{is_key_of, key_of, key_opens, Opens}
+use Rattle.charref.proofs.Naming.{is_key_of, key_of, key_opens, name_all, Opens}
 use Rattle.charref.proofs.Ranges.{within}
 use Rattle.charref.proofs.Searching.{read_ampersand}
 use Rattle.charref.proofs.Fronts.{run_more}
-use Rattle.charref.proofs.Extending.{opens_more, front_of, follows, ends, closes, continues, last_letter, best_before, settled_before}
+use Rattle.charref.proofs.Extending.{opens_more, front_of, last_letter, best_before, settled_before}
 use Rattle.charref.proofs.Opening.{open_taken}
 use Rattle.charref.proofs.OneReference.{one_of}
 use Rattle.charref.proofs.Telling.{read_named, read_unknown}
@@ -47,10 +46,6 @@ module _ (table : Entities) (bytes : List ℕ) (k : ℕ) (walk next : Walk) (wit
       record { some = omega arith; few = omega arith; ascii = run_more is_ascii bytes k within before.ascii ascii; read = taken_more (Some found) take-next }
 
 -- WHAT SETTLES NOTHING
-
-pub if_none : {A : Type 0} (o : Option A) (P : Type 0) (Q : A → Type 0) → MatchOption o P Q → IsNone o → P
-if_none None P Q h none = h
-if_none (Some x) P Q h none = absurd (true≢false none)
 
 some_more : (ps : List Placed) → is_empty ps ≡ false → 1 ≤ length ps
 some_more [] some = absurd (true≢false some)
@@ -93,6 +88,9 @@ nothing_settled walk table bytes count is_table walked stops n found settles =
         let least : n ≤ length bytes = settles.few in
         let size : length (take n bytes) ≡ n = length-take-le n bytes least in
         true≢false (sym settles.ascii ∙ list_all_at is_ascii (take n bytes) count 0 (omega arith) (ap is_ascii (get_or-take n bytes count 0 within) ∙ stops (omega arith)))
+
+pub letter_of_ascii : (byte : ℕ) → is_ascii_alphanumeric byte ≡ true → is_alphanumeric byte ≡ true
+letter_of_ascii byte is = grind (arith, nat_tests)
 
 -- no key begins with the first letter
 none_over : (table : Entities) (bytes : List ℕ) (low high : ℕ) → IsRange table bytes low high → low ≡ high → HasNone table bytes
@@ -173,14 +171,7 @@ read_closed table text after k e cs is_table at is closed stands =
 
 -- it is ASCII
 key_name_ascii : (name : List ℕ) → is_key_name name ≡ true → list_all is_ascii name ≡ true
-key_name_ascii [] h = refl
-key_name_ascii (c ∷ cs) h =
-    let letter : is_alphanumeric c ≡ true = (and_parts (is_alphanumeric c) _ h).0 in
-    and_from _ _ (grind (arith, nat_tests)) (elim (follows cs (and_parts (is_alphanumeric c) _ h).1) [
-      | ends is ↦ subst (λ xs. list_all is_ascii xs ≡ true) (sym is) refl
-      | closes is ↦ subst (λ xs. list_all is_ascii xs ≡ true) (sym is) refl
-      | continues more ↦ key_name_ascii cs more
-    ])
+key_name_ascii name = name_all is_ascii (λ c letter. grind (arith, nat_tests)) refl name
 
 -- These bytes begin with the name of this key, so many of them.
 pub record StandsAt (bytes key : List ℕ) (count : ℕ) : Type 0 where

@@ -112,19 +112,6 @@ order_by_size n m xs ys long_x long_y some past = sym (order_at_once n m xs ys l
     by : (place : ℕ) → min n m ≤ place → is_earlier place n m xs ys ≡ nat_lt n m
     by place p = grind (arith, nat_tests, p)
 
--- a name is begun with where its front is, and then its rest
-pub starts_both : (n : ℕ) (xs ys : List ℕ) → starts_with nat_eq xs ys ≡ (starts_with nat_eq xs (take n ys) && starts_with nat_eq (drop n xs) (drop n ys))
-starts_both zero xs ys = refl
-starts_both (suc n) xs [] = refl
-starts_both (suc n) [] (y ∷ ys) = refl
-starts_both (suc n) (x ∷ xs) (y ∷ ys) = ap (λ (b : Bool). nat_eq y x && b) (starts_both n xs ys) ∙ grind arith
-
--- the same of what is left of both, as a slice has it
-pub begun_at : (r : Bool) (n : ℕ) (xs ys : List ℕ) → r ≡ starts_with nat_eq (take (length xs - n) (drop n xs)) (take 16 (take (length ys - n) (drop n ys)))
-    → starts_with nat_eq (drop n xs) (take 16 (drop n ys)) ≡ r
-begun_at r n xs ys e =
-    sym (e ∙ ap (λ (x : List ℕ). starts_with nat_eq x (take 16 (take (length ys - n) (drop n ys)))) (take_rest xs n) ∙ ap (λ (y : List ℕ). starts_with nat_eq (drop n xs) (take 16 y)) (take_rest ys n))
-
 -- THE KEY OF AN ENTRY, IN THE TEXT THAT GOES ON AFTER IT
 
 first_off : (k : ℕ) (xs : List ℕ) → drop 1 (take (suc k) xs) ≡ take k (drop 1 xs)

@@ -6,7 +6,7 @@ use Rattle.std.proofs.Common.{Contains}
 use Rattle.charref.proofs.Keys.{below_each, whole, longest-whole}
 -- under the name by which the crate above cites it
 pub use Rattle.charref.proofs.Keys.{longest_among}
-use Rattle.charref.proofs.Members.{readable_from_parts}
+use Rattle.charref.proofs.Members.{readable_from}
 
 -- a key is once in a table
 same_key : (a b : List ℕ) → a ≡ b → bytes_eq a b ≡ false → ⊥
@@ -40,7 +40,7 @@ has_found table e is_table (k, less, got) =
 
 pub core_readable : IsReadable core
 unfolding IsStrictlySortedBy
-core_readable = readable_from_parts core refl refl ((refl, (refl, (refl, (refl, tt)))), ((refl, (refl, (refl, tt))), ((refl, (refl, tt)), ((refl, tt), (tt, tt)))))
+core_readable = readable_from core refl ((refl, (refl, (refl, (refl, tt)))), ((refl, (refl, (refl, tt))), ((refl, (refl, tt)), ((refl, tt), (tt, tt)))))
 
 pub has_only : (table : Entities) (key characters : List ℕ) (e : Entry) → IsTable table → longest table key ≡ Some e → Contains table (record { key = key; stands_for = characters }) → (e.key ≡ key) × (e.stands_for ≡ characters)
 has_only table key characters e is_table found contains =

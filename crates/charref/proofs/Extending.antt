@@ -1,55 +1,14 @@
 -- A name with one character more.
-use Rattle.charref.proofs.Names.{arith, ◌≡◌, ℕ, ◌+◌, ◌≤◌, ◌<◌, Bool, true, false, true≢false, not, ◌&&◌, ◌||◌, ◌==◌, cond, nat_eq, bytes_eq, codes, List, [], ◌∷◌, ◌++◌, length, slice_get, Some, refl, sym, ap, ◌∙◌, subst, length-append, append-nil, map-append, length-map, bytes_eq-Decides, and_parts, and_from, nat_tests, starts_with, Placed, characters, all, is_empty, is_alphanumeric, is_equals, Alphanumeric, Semicolon, Equals, Other, Search, Entry, Entities, IsTable, longest, is_key, is_key_name, is_empty_list, ends_in_semicolon, is_kept_as_text, best_entry, has_read_key, IsOver, EntryGoesOn, HasNone, SearchHasRead, key_bytes, IsSettled, last_of, is_letter_or_digit, IsHeldReference, in_name, Name}
+use Rattle.charref.proofs.Names.{arith, ◌≡◌, ℕ, ◌+◌, ◌≤◌, ◌<◌, Bool, true, false, true≢false, not, ◌&&◌, ◌||◌, ◌==◌, cond, nat_eq, List, [], ◌∷◌, ◌++◌, length, slice_get, Some, refl, sym, ap, ◌∙◌, subst, length-append, append-nil, map-append, length-map, and_parts, and_from, nat_tests, starts_with, Placed, characters, all, is_empty, is_alphanumeric, is_equals, Alphanumeric, Semicolon, Equals, Other, Search, Entry, Entities, IsTable, longest, is_key, is_key_name, ends_in_semicolon, is_kept_as_text, best_entry, has_read_key, IsOver, EntryGoesOn, HasNone, SearchHasRead, key_bytes, IsSettled, last_of, is_letter_or_digit, IsHeldReference, in_name, Name}
 use Rattle.std.proofs.Math.Bool.{and-false}
 use Rattle.charref.specs.Table.{is_as_long}
 use Rattle.charref.proofs.Keys.{no_longer, longest-over, longest-more, begins_itself, whole}
 use Rattle.charref.proofs.Core.{longest_among}
-use Rattle.charref.proofs.Naming.{is_key_of}
+use Rattle.charref.proofs.Naming.{is_key_of, all_at, name_all, follows, ends, closes, continues}
 
 -- a key has letters and digits, and a `;`
 abbrev pub is_in_names : ℕ → Bool
 is_in_names c = is_alphanumeric c || c == 59
-
-by_letter : (c x : ℕ) → c ≡ x → is_alphanumeric x ≡ true → is_in_names c ≡ true
-by_letter c x same letter = grind (arith, nat_tests)
-
--- what follows a character of a name
-pub data Follows (cs : List ℕ) : Type 0 where
-  ends : cs ≡ [] → Follows cs
-  closes : cs ≡ 59 ∷ [] → Follows cs
-  continues : is_key_name cs ≡ true → Follows cs
-
-pub follows : (cs : List ℕ) → (is_empty_list cs || bytes_eq cs (codes ";") || is_key_name cs) ≡ true → Follows cs
-follows [] h = ends refl
-follows (c ∷ cs) h = by (bytes_eq (c ∷ cs) (codes ";")) refl h
-  where
-    by : (b : Bool) → bytes_eq (c ∷ cs) (codes ";") ≡ b → (b || is_key_name (c ∷ cs)) ≡ true → Follows (c ∷ cs)
-    by true is h = closes ((bytes_eq-Decides (c ∷ cs) (codes ";")).0 is)
-    by false is h = continues h
-
-name_has : (name bytes : List ℕ) (c : ℕ) → is_key_name name ≡ true → starts_with nat_eq name (bytes ++ c ∷ []) ≡ true → is_in_names c ≡ true
-name_has [] bytes c h p = absurd (true≢false (sym h))
-name_has (x ∷ xs) [] c h p = by_letter c x (let t : nat_eq c x ≡ true = (and_parts _ _ p).0 in grind (arith, nat_tests)) (and_parts (is_alphanumeric x) _ h).0
-name_has (x ∷ xs) (b ∷ bs) c h p = elim (follows xs (and_parts (is_alphanumeric x) _ h).1) [
-  | ends is ↦ absurd (none bs (subst (λ ys. starts_with nat_eq ys (bs ++ c ∷ []) ≡ true) is (and_parts _ _ p).1))
-  | closes is ↦ one bs (subst (λ ys. starts_with nat_eq ys (bs ++ c ∷ []) ≡ true) is (and_parts _ _ p).1)
-  | continues more ↦ name_has xs bs c more (and_parts _ _ p).1
-]
-  where
-    none : (bs : List ℕ) → starts_with nat_eq [] (bs ++ c ∷ []) ≡ true → ⊥
-    none [] q = true≢false (sym q)
-    none (b ∷ bs) q = true≢false (sym q)
-
-    one : (bs : List ℕ) → starts_with nat_eq (59 ∷ []) (bs ++ c ∷ []) ≡ true → is_in_names c ≡ true
-    one [] q = let is : nat_eq c 59 ≡ true = (and_parts _ _ q).0 in grind (arith, nat_tests)
-    one (b ∷ bs) q = absurd (none bs (and_parts _ _ q).1)
-
-key_has : (key bytes : List ℕ) (c : ℕ) → is_key key ≡ true → starts_with nat_eq key (38 ∷ bytes ++ c ∷ []) ≡ true → is_in_names c ≡ true
-key_has [] bytes c h p = absurd (true≢false (sym h))
-key_has (x ∷ xs) bytes c h p = name_has xs bytes c (and_parts _ _ h).1 (and_parts _ _ p).1
-
-pub none_past_names : (table : Entities) (bytes : List ℕ) (c : ℕ) → IsTable table → is_in_names c ≡ false → HasNone table (38 ∷ bytes ++ c ∷ [])
-none_past_names table bytes c is_table not-in = record { none = λ k e h p. true≢false (sym (key_has e.key bytes c (is_key_of table k e is_table h) p) ∙ not-in) }
 
 -- a key that begins with one byte more
 pub opens_more : (key bytes : List ℕ) (byte : ℕ) → starts_with nat_eq key (bytes ++ byte ∷ []) ≡ true → (starts_with nat_eq key bytes ≡ true) × (slice_get key (length bytes) ≡ Some byte)
@@ -57,6 +16,14 @@ opens_more [] [] byte h = absurd (true≢false (sym h))
 opens_more (x ∷ xs) [] byte h = (refl, ap Some (let t : nat_eq byte x ≡ true = (and_parts (nat_eq byte x) true h).0 in grind (arith, nat_tests)))
 opens_more [] (b ∷ bs) byte h = absurd (true≢false (sym h))
 opens_more (x ∷ xs) (b ∷ bs) byte h = let more = opens_more xs bs byte (and_parts _ _ h).1 in (and_from _ _ (and_parts _ _ h).0 more.0, more.1)
+
+key_has : (key bytes : List ℕ) (c : ℕ) → is_key key ≡ true → starts_with nat_eq key (38 ∷ bytes ++ c ∷ []) ≡ true → is_in_names c ≡ true
+key_has [] bytes c h p = absurd (true≢false (sym h))
+key_has (x ∷ xs) bytes c h p =
+    all_at is_in_names xs (length bytes) c (name_all is_in_names (λ d letter. grind (arith, nat_tests)) refl xs (and_parts _ _ h).1) (opens_more (x ∷ xs) (38 ∷ bytes) c p).1
+
+pub none_past_names : (table : Entities) (bytes : List ℕ) (c : ℕ) → IsTable table → is_in_names c ≡ false → HasNone table (38 ∷ bytes ++ c ∷ [])
+none_past_names table bytes c is_table not-in = record { none = λ k e h p. true≢false (sym (key_has e.key bytes c (is_key_of table k e is_table h) p) ∙ not-in) }
 
 pub none_past_over : (table : Entities) (bytes : List ℕ) (c : ℕ) → IsOver table bytes → HasNone table (bytes ++ c ∷ [])
 none_past_over table bytes c over = record {

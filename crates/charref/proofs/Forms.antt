@@ -1,11 +1,13 @@
 -- A flat form is of one table only.
-use Rattle.charref.proofs.Names.{arith, ◌≡◌, ℕ, ◌≤◌, ◌<◌, Bool, true, not, ◌&&◌, ◌||◌, nat_lt, nat_le, nat_eq, ◌==◌, List, [], ◌∷◌, ◌++◌, length, Result, Ok, Err, inl, inr, refl, sym, ap, ◌∙◌, subst, append_assoc, and_parts, and_from, nat_tests, append-nil, list_all, flat_map, is_alphanumeric, Refusal, TableFault, Memory, Entry, Entities, is_key, is_key_name, is_character, IsRefusedWith, is_one_or_two, flat_character, flat_characters, flat_entry, flat_of, IsReadable, is_count, is_table_entry, BeginsWith, drop, numbers_in, characters_in}
+use Rattle.charref.proofs.Names.{arith, ◌≡◌, ℕ, ◌≤◌, ◌<◌, true, not, ◌&&◌, ◌||◌, nat_le, nat_eq, ◌==◌, List, [], ◌∷◌, ◌++◌, length, Result, Ok, Err, inl, inr, refl, sym, ap, ◌∙◌, subst, append_assoc, and_parts, nat_tests, append-nil, list_all, flat_map, Refusal, TableFault, Memory, Entry, Entities, is_key, is_character, IsRefusedWith, is_one_or_two, flat_character, flat_characters, flat_entry, flat_of, IsReadable, is_count, ends_key, is_table_entry, BeginsWith, drop, take, suc, numbers_in, characters_in}
 use Rattle.std.proofs.Common.{◌^◌, IfOk, IfErr}
 use Rattle.std.proofs.lemmas.Nat.{from_le_bytes-to_le_bytes_4}
 use Rattle.std.proofs.lemmas.List.Concat.{flat_map-append}
 use Rattle.std.specs.Int.{w32, from_le_bytes}
 use Rattle.charref.specs.Flat.{IsRefusedFlat}
-use Rattle.charref.proofs.Extending.{follows, ends, closes, continues}
+use Rattle.std.proofs.Math.Seq.{drop-append_seam, take-append_seam}
+use Rattle.charref.proofs.Fronts.{name_size, key_size}
+use Rattle.charref.proofs.Members.{are_entries}
 
 -- CHARACTERS
 
@@ -53,74 +55,33 @@ counted cs is = let few : (nat_eq (length cs) 1 || nat_eq (length cs) 2) ≡ tru
 pub few : (cs : List ℕ) → is_one_or_two cs ≡ true → length cs ≤ 2
 few cs is = let test : is_count (length cs) ≡ true = counted cs is in grind (arith, nat_tests)
 
--- KEYS
-
-abbrev pub is_past_counts : ℕ → Bool
-is_past_counts byte = nat_lt 2 byte
-
-letter_past : (c : ℕ) → is_alphanumeric c ≡ true → is_past_counts c ≡ true
-letter_past c is = grind (arith, nat_tests)
-
-name_past : (name : List ℕ) → is_key_name name ≡ true → list_all is_past_counts name ≡ true
-name_past [] is = refl
-name_past (c ∷ cs) is = and_from (is_past_counts c) _ (letter_past c (and_parts (is_alphanumeric c) _ is).0) (elim (follows cs (and_parts (is_alphanumeric c) _ is).1) [
-  | ends none ↦ subst (λ xs. list_all is_past_counts xs ≡ true) (sym none) refl
-  | closes one ↦ subst (λ xs. list_all is_past_counts xs ≡ true) (sym one) refl
-  | continues more ↦ name_past cs more
-])
-
-pub key_past : (key : List ℕ) → is_key key ≡ true → list_all is_past_counts key ≡ true
-key_past [] is = refl
-key_past (c ∷ cs) is = and_from (is_past_counts c) _ (let t : (c == 38) ≡ true = (and_parts _ _ is).0 in grind (arith, nat_tests)) (name_past cs (and_parts _ _ is).1)
-
-no_count : (c d : ℕ) → is_count c ≡ true → is_past_counts d ≡ true → c ≡ d → ⊥
-no_count c d p q is = grind (arith, nat_tests)
-
--- what ends at its first count
-pub same_key : (a b r s : List ℕ) (c d : ℕ) → list_all is_past_counts a ≡ true → list_all is_past_counts b ≡ true → is_count c ≡ true → is_count d ≡ true
-    → a ++ c ∷ r ≡ b ++ d ∷ s → (a ≡ b) × (c ∷ r ≡ d ∷ s)
-same_key [] [] r s c d p q m n is = (refl, is)
-same_key [] (y ∷ ys) r s c d p q m n is = absurd (no_count c y m (and_parts _ _ q).0 (let h : c ≡ y = cc in h))
-same_key (x ∷ xs) [] r s c d p q m n is = absurd (no_count d x n (and_parts _ _ p).0 (let h : d ≡ x = cc in h))
-same_key (x ∷ xs) (y ∷ ys) r s c d p q m n is =
-    let first : x ≡ y = cc in
-    let tail : xs ++ c ∷ r ≡ ys ++ d ∷ s = cc in
-    let others : (xs ≡ ys) × (c ∷ r ≡ d ∷ s) = same_key xs ys r s c d (and_parts _ _ p).1 (and_parts _ _ q).1 m n tail in
-    ((λ i. first i ∷ others.0 i), others.1)
-
 -- ENTRIES
 
-pub entry_split : (e : Entry) (r : List ℕ) → flat_entry e ++ r ≡ e.key ++ length e.stands_for ∷ (flat_map flat_character e.stands_for ++ r)
-entry_split e r = append_assoc e.key (flat_characters e.stands_for) r
+-- the bytes after the key of an entry
+pub after_key : (e : Entry) (r : List ℕ) → is_table_entry e ≡ true → ends_key (flat_characters e.stands_for ++ r) ≡ true
+after_key e r is = counted e.stands_for (and_parts (is_key e.key) _ is).1
 
 pub same_entries : (e f : Entry) (r s : List ℕ) → is_table_entry e ≡ true → is_table_entry f ≡ true → flat_entry e ++ r ≡ flat_entry f ++ s → (e ≡ f) × (r ≡ s)
 same_entries e f r s p q is =
     let e-ones : is_one_or_two e.stands_for ≡ true = (and_parts (is_key e.key) _ p).1 in
     let f-ones : is_one_or_two f.stands_for ≡ true = (and_parts (is_key f.key) _ q).1 in
-    let keys : (e.key ≡ f.key) × (length e.stands_for ∷ (flat_map flat_character e.stands_for ++ r) ≡ length f.stands_for ∷ (flat_map flat_character f.stands_for ++ s)) =
-    same_key e.key f.key _ _ _ _ (key_past e.key (and_parts _ _ p).0) (key_past f.key (and_parts _ _ q).0) (counted e.stands_for e-ones) (counted f.stands_for f-ones) (sym (entry_split e r) ∙ is ∙ entry_split f s) in
-    let lists = keys.1 in
+    let both : e.key ++ (flat_characters e.stands_for ++ r) ≡ f.key ++ (flat_characters f.stands_for ++ s) =
+    sym (append_assoc e.key (flat_characters e.stands_for) r) ∙ is ∙ append_assoc f.key (flat_characters f.stands_for) s in
+    let sizes : length e.key ≡ length f.key = key_size e.key _ (and_parts (is_key e.key) _ p).0 (after_key e r p) ∙ ap (λ bs. suc (name_size (drop 1 bs))) both ∙ sym (key_size f.key _ (and_parts (is_key f.key) _ q).0 (after_key f s q)) in
+    let keys : e.key ≡ f.key = sym (take-append_seam e.key _) ∙ ap (λ n. take n (e.key ++ (flat_characters e.stands_for ++ r))) sizes ∙ ap (take (length f.key)) both ∙ take-append_seam f.key _ in
+    let lists : length e.stands_for ∷ (flat_map flat_character e.stands_for ++ r) ≡ length f.stands_for ∷ (flat_map flat_character f.stands_for ++ s) =
+    sym (drop-append_seam e.key _) ∙ ap (λ n. drop n (e.key ++ (flat_characters e.stands_for ++ r))) sizes ∙ ap (drop (length f.key)) both ∙ drop-append_seam f.key _ in
     let size : length e.stands_for ≡ length f.stands_for = cc in
     let rest : flat_map flat_character e.stands_for ++ r ≡ flat_map flat_character f.stands_for ++ s = cc in
     let chars : (e.stands_for ≡ f.stands_for) × (r ≡ s) = same_characters e.stands_for f.stands_for r s (and_parts _ _ e-ones).1 (and_parts _ _ f-ones).1 size rest in
-    ((λ i. record { key = keys.0 i; stands_for = chars.0 i }), chars.1)
+    ((λ i. record { key = keys i; stands_for = chars.0 i }), chars.1)
 
 -- TABLES
 
-all_entries : (table : Entities) → list_all (λ e. is_key e.key) table ≡ true → list_all (λ e. is_one_or_two e.stands_for) table ≡ true → list_all is_table_entry table ≡ true
-all_entries [] p q = refl
-all_entries (e ∷ es) p q =
-    let keys : (is_key e.key ≡ true) × (list_all (λ e. is_key e.key) es ≡ true) = and_parts (is_key e.key) _ p in
-    let ones : (is_one_or_two e.stands_for ≡ true) × (list_all (λ e. is_one_or_two e.stands_for) es ≡ true) = and_parts (is_one_or_two e.stands_for) _ q in
-    and_from (is_table_entry e) _ (and_from _ _ keys.0 ones.0) (all_entries es keys.1 ones.1)
-
-pub are_entries : (table : Entities) → IsReadable table → list_all is_table_entry table ≡ true
-are_entries table readable = all_entries table readable.sorted.is_table.keys readable.characters
-
 some_bytes : (e : Entry) (r : List ℕ) → is_table_entry e ≡ true → [] ≡ flat_entry e ++ r → ⊥
-some_bytes e r is none = by e.key (none ∙ entry_split e r)
+some_bytes e r is none = by e.key (none ∙ append_assoc e.key (flat_characters e.stands_for) r)
   where
-    by : (key : List ℕ) → [] ≡ key ++ length e.stands_for ∷ (flat_map flat_character e.stands_for ++ r) → ⊥
+    by : (key : List ℕ) → [] ≡ key ++ (flat_characters e.stands_for ++ r) → ⊥
     by [] is = cc
     by (c ∷ cs) is = cc
 

@@ -1,7 +1,7 @@
 -- The names of other crates and of specs/ that several proofs cite, in one place.
 pub use Rattle.charref.specs.AtOnce.{IsOpenKeyOf, HasWalked, Settles, SettlesNothing}
 pub use Rattle.charref.specs.Flat.{is_one_or_two, IsReadable, flat_character, flat_characters, flat_entry, flat_of}
-pub use Rattle.charref.specs.Front.{is_count, is_table_entry, passes_byte, BeginsWith, BeginsWithNone, IsCounted, HasNoCounted, IsEntity, IsEntryTo, entity_to, next_place}
+pub use Rattle.charref.specs.Front.{is_count, ends_key, is_table_entry, BeginsWith, BeginsWithNone, HasNoKey, IsOnlyKey, IsEntity, IsEntryTo, entity_to, next_place}
 pub use Rattle.charref.specs.Held.{key_bytes, IsSign, IsHeldReference, in_name, after_sign, after_x, in_number, number_sign}
 pub use Rattle.charref.specs.Last.{IsSettled, last_of, is_letter_or_digit, is_kept_before}
 pub use Rattle.charref.specs.Number.{is_digit_of, radix}
@@ -12,7 +12,6 @@ pub use Rattle.charref.specs.Reference.{Entry, Entities, is_hex_digit, digit_val
 pub use Rattle.charref.specs.Table.{code_at, IsSortedTable, IsRange, IsRising, IsStart, IsIndex, SearchHasRead, best_entry, has_read_key, IsOver, EntryGoesOn, HasNone, IsParted, entry, entries, numbers_in, characters_in, key_at, IsAfterKey, IsOpenKey, AreEnds, AreMarked}
 pub use Rattle.charref.specs.Walk.{WalkHasTaken, NextIs}
 pub use Rattle.charref.specs.declared.entries.Entity.{Entity}
-pub use Rattle.charref.specs.declared.key.TheConstants.{ALPHANUMERICS}
 pub use Rattle.charref.specs.declared.last.Last.TheVariants.{Alphanumeric, Semicolon, Equals, Other}
 pub use Rattle.charref.specs.declared.number.Base.{Base}
 pub use Rattle.charref.specs.declared.number.Base.TheVariants.{Decimal, Hexadecimal}

@@ -1,8 +1,33 @@
 -- A name that has been read: its key, or none.
-use Rattle.charref.proofs.Names.{arith, ◌≡◌, ℕ, zero, suc, ◌-◌, ◌≤◌, ◌<◌, true, false, true≢false, ◌==◌, nat_eq, List, [], ◌∷◌, ◌++◌, length, take, drop, slice_get, get_or, Some, refl, sym, ap, ◌∙◌, subst, take-append-drop, and_parts, nat_tests, starts_with, list_all, Placed, characters, begins, all, past, is_alphanumeric, Entry, Entities, IsTable, is_key, ends_in_semicolon}
+use Rattle.charref.proofs.Names.{arith, ◌≡◌, ℕ, zero, suc, ◌-◌, ◌≤◌, ◌<◌, Bool, true, false, true≢false, ◌||◌, ◌==◌, nat_eq, bytes_eq, bytes_eq-Decides, codes, List, [], ◌∷◌, ◌++◌, length, take, drop, slice_get, get_or, Some, refl, sym, ap, ◌∙◌, subst, take-append-drop, and_parts, and_from, nat_tests, starts_with, list_all, Placed, characters, begins, all, past, is_alphanumeric, Entry, Entities, IsTable, is_key, is_key_name, is_empty_list, ends_in_semicolon}
 use Rattle.std.proofs.Math.Seq.{drop-append_seam}
 -- under the name by which the crates above cite it
 pub use Rattle.names.proofs.Words.{all-append}
+
+-- what follows a character of a name
+pub data Follows (cs : List ℕ) : Type 0 where
+  ends : cs ≡ [] → Follows cs
+  closes : cs ≡ 59 ∷ [] → Follows cs
+  continues : is_key_name cs ≡ true → Follows cs
+
+pub follows : (cs : List ℕ) → (is_empty_list cs || bytes_eq cs (codes ";") || is_key_name cs) ≡ true → Follows cs
+follows [] h = ends refl
+follows (c ∷ cs) h = by (bytes_eq (c ∷ cs) (codes ";")) refl h
+  where
+    by : (b : Bool) → bytes_eq (c ∷ cs) (codes ";") ≡ b → (b || is_key_name (c ∷ cs)) ≡ true → Follows (c ∷ cs)
+    by true is h = closes ((bytes_eq-Decides (c ∷ cs) (codes ";")).0 is)
+    by false is h = continues h
+
+-- each byte of a name passes what all letters and digits, and the `;`, do
+pub name_all : (test : ℕ → Bool) → ((c : ℕ) → is_alphanumeric c ≡ true → test c ≡ true) → test 59 ≡ true → (name : List ℕ) → is_key_name name ≡ true → list_all test name ≡ true
+name_all test letters last [] is = refl
+name_all test letters last (c ∷ cs) is =
+    let parts : (is_alphanumeric c ≡ true) × ((is_empty_list cs || bytes_eq cs (codes ";") || is_key_name cs) ≡ true) = and_parts _ _ is in
+    and_from (test c) _ (letters c parts.0) (elim (follows cs parts.1) [
+      | ends none ↦ subst (λ xs. list_all test xs ≡ true) (sym none) refl
+      | closes one ↦ subst (λ xs. list_all test xs ≡ true) (sym one) (and_from (test 59) true last refl)
+      | continues more ↦ name_all test letters last cs more
+    ])
 
 -- the last byte of a key
 pub ends_at : (xs : List ℕ) → 0 < length xs → ends_in_semicolon xs ≡ nat_eq (get_or xs (length xs - 1) 0) 59
@@ -42,14 +67,15 @@ begins-drop (p ∷ ps) ys (suc n) h lt = begins-drop ps ys n (and_parts _ _ h).1
 pub drop-seam : (xs ys : List Placed) (n : ℕ) → n ≡ length xs → drop n (xs ++ ys) ≡ ys
 drop-seam xs ys n h = ap (λ k. drop k (xs ++ ys)) h ∙ drop-append_seam xs ys
 
--- keys of a table
-pub key_in : (table : Entities) (k : ℕ) (e : Entry) → list_all (λ entry. is_key entry.key) table ≡ true → slice_get table k ≡ Some e → is_key e.key ≡ true
-key_in [] k e keys h = absurd (cc)
-key_in (x ∷ xs) zero e keys h = let same : x ≡ e = cc in subst (λ (y : Entry). is_key y.key ≡ true) same (and_parts _ _ keys).0
-key_in (x ∷ xs) (suc k) e keys h = key_in xs k e (and_parts _ _ keys).1 h
+-- an element of a list passes where all do
+pub all_at : {A : Type 0} (test : A → Bool) (xs : List A) (k : ℕ) (x : A) → list_all test xs ≡ true → slice_get xs k ≡ Some x → test x ≡ true
+all_at test [] k x all h = absurd (cc)
+all_at test (y ∷ ys) zero x all h = let same : y ≡ x = cc in subst (λ z. test z ≡ true) same (and_parts _ _ all).0
+all_at test (y ∷ ys) (suc k) x all h = all_at test ys k x (and_parts _ _ all).1 h
 
+-- keys of a table
 pub is_key_of : (table : Entities) (k : ℕ) (e : Entry) → IsTable table → slice_get table k ≡ Some e → is_key e.key ≡ true
-is_key_of table k e is_table h = key_in table k e is_table.keys h
+is_key_of table k e is_table h = all_at (λ (entry : Entry). is_key entry.key) table k e is_table.keys h
 
 -- a key begins with `&` and an alphanumeric
 pub record Opens (key : List ℕ) : Type 0 where

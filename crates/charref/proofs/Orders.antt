@@ -1,35 +1,14 @@
 -- Keys in order, one after another.
-use Rattle.charref.proofs.Names.{arith, nat_tests, get_or, zero, suc, ◌≡◌, ℕ, ◌≤◌, ◌<◌, true, false, List, [], ◌∷◌, ◌++◌, length, drop, is_lt, Less, refl, ap, ◌∙◌, slice_cmp, AllByRecursion}
+use Rattle.charref.proofs.Names.{◌≡◌, ℕ, List, [], ◌∷◌, ◌++◌, Less, refl, slice_cmp, AllByRecursion}
 use Rattle.std.specs.List.Sorted.{IsStrictlySortedBy}
 use Rattle.std.proofs.Common.{nat_cmp}
-use Rattle.std.proofs.Math.Seq.{drop-cons}
 use Rattle.std.proofs.lemmas.Cmp.{nat_list_cmp_total}
-use Rattle.std.proofs.lemmas.List.{drop_all}
-
--- the beginning of a longer key is before it; no key is before its own beginning
-pub shorter_before : (a b : List ℕ) (n : ℕ) → n ≡ length a → n < length b → is_lt (slice_cmp nat_cmp (drop n a) (drop n b)) ≡ true
-shorter_before a b n is less =
-    ap (λ xs. is_lt (slice_cmp nat_cmp xs (drop n b))) (drop_all n a (omega arith)) ∙ ap (λ xs. is_lt (slice_cmp nat_cmp [] xs)) (drop-cons b n 0 less)
-
-none_first : (a : List ℕ) → is_lt (slice_cmp nat_cmp a []) ≡ false
-none_first [] = refl
-none_first (x ∷ xs) = refl
-
-pub never_before : (a b : List ℕ) (n : ℕ) → length b ≤ n → is_lt (slice_cmp nat_cmp (drop n a) (drop n b)) ≡ false
-never_before a b n less = ap (λ xs. is_lt (slice_cmp nat_cmp (drop n a) xs)) (drop_all n b less) ∙ none_first (drop n a)
 
 -- the last of some keys, or the empty key, which is before all
 abbrev pub last_key : List (List ℕ) → List ℕ
 last_key [] = []
 last_key (k ∷ []) = k
 last_key (k ∷ m ∷ ks) = last_key (m ∷ ks)
-
--- past two equal bytes the order is that of what follows
-pub same_past : (a b : List ℕ) (n : ℕ) → n < length a → n < length b → get_or a n 0 ≡ get_or b n 0 → slice_cmp nat_cmp (drop n a) (drop n b) ≡ slice_cmp nat_cmp (drop (suc n) a) (drop (suc n) b)
-same_past [] b n l m e = absurd (omega (arith, l))
-same_past (x ∷ xs) [] n l m e = absurd (omega (arith, m))
-same_past (x ∷ xs) (y ∷ ys) zero l m e = grind (arith, e, nat_tests)
-same_past (x ∷ xs) (y ∷ ys) (suc n) l m e = same_past xs ys n (omega (arith, l)) (omega (arith, m)) e
 
 pub last_key-more : (ks : List (List ℕ)) (key : List ℕ) → last_key (ks ++ key ∷ []) ≡ key
 last_key-more [] key = refl

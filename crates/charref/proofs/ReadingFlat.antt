@@ -1,16 +1,15 @@
 -- Reading a flat form, entry by entry.
-use Rattle.charref.proofs.Names.{arith, ◌≡◌, ℕ, suc, ◌+◌, ◌-◌, ◌*◌, ◌≤◌, ◌<◌, Bool, true, false, true≢false, ◌&&◌, nat_le, List, [], ◌∷◌, ◌++◌, map, length, take, drop, slice_get, get_or, is_lt, Less, refl, sym, ap, ◌∙◌, subst, append_assoc, and_parts, and_from, nat_tests, append-nil, take-append-drop, take_rest, drop-drop, length-drop, map-append, slice_cmp, list_all, flat_map, Entity, Characters, characters_of, Entry, Entities, is_key, is_character, key_at, entry, entries, is_one_or_two, flat_character, flat_characters, flat_entry, flat_of, IsReadable, passes_byte, is_count, BeginsWith, BeginsWithNone, IsCounted, HasNoCounted, IsEntity, IsEntryTo, is_table_entry, entity_to, next_place, characters_in, All, length-append}
+use Rattle.charref.proofs.Names.{arith, ◌≡◌, ℕ, ◌+◌, ◌-◌, ◌*◌, ◌≤◌, ◌<◌, Bool, true, false, true≢false, ◌&&◌, nat_le, List, [], ◌∷◌, ◌++◌, map, length, take, drop, get_or, is_lt, Less, refl, sym, ap, ◌∙◌, subst, append_assoc, and_parts, and_from, nat_tests, append-nil, take-append-drop, take_rest, drop-drop, length-drop, map-append, slice_cmp, list_all, flat_map, Entity, Characters, characters_of, Entry, Entities, is_key, is_character, key_at, entry, entries, is_one_or_two, flat_character, flat_characters, flat_entry, flat_of, IsReadable, BeginsWith, BeginsWithNone, HasNoKey, IsOnlyKey, IsEntity, IsEntryTo, is_table_entry, entity_to, next_place, characters_in, All, length-append}
 use Rattle.std.specs.List.Sorted.{IsStrictlySortedBy}
 use Rattle.std.proofs.Common.{nat_cmp, Ordering}
 use Rattle.std.proofs.lemmas.List.{drop_all, drop_more, get_or-drop, length-take-le}
 use Rattle.std.proofs.lemmas.List.Folds.{list_all-append}
-use Rattle.std.proofs.Math.Seq.{drop-cons, drop-append_seam}
+use Rattle.std.proofs.Math.Seq.{drop-append_seam}
 use Rattle.std.proofs.lemmas.List.Elements.{All-push}
-use Rattle.charref.proofs.Fronts.{passes_at}
 use Rattle.charref.proofs.Naming.{key_size}
-use Rattle.charref.proofs.Members.{readable_from_parts}
+use Rattle.charref.proofs.Members.{readable_from, are_entries}
 use Rattle.charref.proofs.Orders.{last_key, last_key-more, sorted_more, last_below}
-use Rattle.charref.proofs.Forms.{flat_more, counted, read_characters, key_past, same_key, same_entries, entry_split, are_entries, Rest, rest_of, tail_of}
+use Rattle.charref.proofs.Forms.{flat_more, read_characters, after_key, same_entries, Rest, rest_of, tail_of}
 
 -- CHARACTERS
 
@@ -33,26 +32,21 @@ no_second bytes two none (c ∷ d ∷ e ∷ es) rest is same = (let many : get_o
 
 -- ENTRIES
 
-counted_at : (bytes : List ℕ) (n : ℕ) → passes_byte is_count (slice_get bytes n) ≡ true → (c : ℕ) × (r : List ℕ) × (drop n bytes ≡ c ∷ r) × (is_count c ≡ true)
-counted_at bytes n h = let at = passes_at is_count bytes n h in (get_or bytes n 0, drop (suc n) bytes, drop-cons bytes n 0 at.0, at.1)
-
-pub no_entry_key : (bytes : List ℕ) → HasNoCounted is_key bytes → BeginsWithNone is_table_entry flat_entry bytes
+pub no_entry_key : (bytes : List ℕ) → HasNoKey bytes → BeginsWithNone is_table_entry flat_entry bytes
 no_entry_key bytes none e rest is same =
-    none e.key (flat_map flat_character e.stands_for ++ rest) (length e.stands_for) (and_parts (is_key e.key) _ is).0 (counted e.stands_for (and_parts (is_key e.key) _ is).1) (same ∙ entry_split e rest)
+    none e.key (flat_characters e.stands_for ++ rest) (and_parts (is_key e.key) _ is).0 (after_key e rest is) (same ∙ append_assoc e.key (flat_characters e.stands_for) rest)
 
-pub no_entry_characters : (bytes : List ℕ) (n : ℕ) → IsCounted is_key bytes n → BeginsWithNone is_one_or_two flat_characters (drop n bytes) → BeginsWithNone is_table_entry flat_entry bytes
+pub no_entry_characters : (bytes : List ℕ) (n : ℕ) → IsOnlyKey bytes n → BeginsWithNone is_one_or_two flat_characters (drop n bytes) → BeginsWithNone is_table_entry flat_entry bytes
 no_entry_characters bytes n key none e rest is same =
-    let at : (c : ℕ) × (r : List ℕ) × (drop n bytes ≡ c ∷ r) × (is_count c ≡ true) = counted_at bytes n key.counted in
-    let parts : (take n bytes ≡ e.key) × (at.0 ∷ at.1 ≡ length e.stands_for ∷ (flat_map flat_character e.stands_for ++ rest)) =
-    same_key (take n bytes) e.key at.1 (flat_map flat_character e.stands_for ++ rest) at.0 (length e.stands_for) (key_past (take n bytes) key.passing) (key_past e.key (and_parts (is_key e.key) _ is).0)
-    at.3 (counted e.stands_for (and_parts (is_key e.key) _ is).1) (ap (λ bs. take n bytes ++ bs) (sym at.2) ∙ take-append-drop n bytes ∙ same ∙ entry_split e rest) in
-    none e.stands_for rest (and_parts (is_key e.key) _ is).1 (at.2 ∙ parts.1)
+    let split : bytes ≡ e.key ++ (flat_characters e.stands_for ++ rest) = same ∙ append_assoc e.key (flat_characters e.stands_for) rest in
+    let own : length e.key ≡ n = key.only e.key (flat_characters e.stands_for ++ rest) (and_parts (is_key e.key) _ is).0 (after_key e rest is) split in
+    none e.stands_for rest (and_parts (is_key e.key) _ is).1 (ap (drop n) split ∙ ap (λ k. drop k (e.key ++ (flat_characters e.stands_for ++ rest))) (sym own) ∙ drop-append_seam e.key _)
 
 some_count : (cs : List ℕ) → is_one_or_two cs ≡ true → 1 ≤ length cs
 some_count [] is = absurd (true≢false (sym is))
 some_count (c ∷ cs) is = omega arith
 
-pub entry_stands : (text : List ℕ) (start n : ℕ) (cs : Characters) → start ≤ length text → n < length (drop start text) → is_key (take n (drop start text)) ≡ true → is_one_or_two (characters_of cs) ≡ true
+pub entry_stands : (text : List ℕ) (start n : ℕ) (cs : Characters) → start ≤ length text → n ≤ length (drop start text) → is_key (take n (drop start text)) ≡ true → is_one_or_two (characters_of cs) ≡ true
     → BeginsWith (flat_characters (characters_of cs)) (drop (start + n) text) (1 + 4 * length (characters_of cs)) → IsEntryTo text start (start + n)
 entry_stands text start n cs within less key ones chars =
     let left : length (drop start text) ≡ length text - start = length-drop start text in
@@ -90,20 +84,6 @@ entry_stands text start n cs within less key ones chars =
           ∙ ap (λ (e : Entry). flat_entry e ++ drop (next_place text end) text) same;
     }
 
--- what the first bytes begin with, all do
-pub begins_more : (form bytes : List ℕ) (m n : ℕ) → BeginsWith form (take m bytes) n → BeginsWith form bytes n
-begins_more form bytes m n begins =
-    let all : bytes ≡ form ++ (drop n (take m bytes) ++ drop m bytes) = sym (take-append-drop m bytes) ∙ ap (λ bs. bs ++ drop m bytes) begins.is ∙ append_assoc form (drop n (take m bytes)) (drop m bytes) in
-    let size : length (take m bytes) ≡ length form + length (drop n (take m bytes)) = ap length begins.is ∙ length-append form (drop n (take m bytes)) in
-    let left : length (drop n (take m bytes)) ≡ length (take m bytes) - n = length-drop n (take m bytes) in
-    let within : n ≤ length (take m bytes) = begins.within in
-    let whole : length bytes ≡ length (take m bytes) + length (drop m bytes) = ap length (sym (take-append-drop m bytes)) ∙ length-append (take m bytes) (drop m bytes) in
-    let own : length form ≡ n = omega arith in
-    record {
-      within = omega arith;
-      is = all ∙ ap (λ bs. form ++ bs) (sym (ap (drop n) all ∙ ap (λ k. drop k (form ++ (drop n (take m bytes) ++ drop m bytes))) (sym own) ∙ drop-append_seam form (drop n (take m bytes) ++ drop m bytes)));
-    }
-
 -- the order of two keys, as it is computed of what they begin
 pub keys_before : (text : List ℕ) (a b m n : ℕ) (r : Bool) → r ≡ is_lt (slice_cmp nat_cmp (take (b - a) (take (length text - a) (drop a text))) (take (n - m) (take (length text - m) (drop m text))))
     → r ≡ is_lt (slice_cmp nat_cmp (key_at text (entity_to a b)) (key_at text (entity_to m n)))
@@ -123,7 +103,7 @@ pub record HasReadTo (text : List ℕ) (entities : List Entity) (last : List ℕ
 
 nothing_readable : IsReadable []
 unfolding IsStrictlySortedBy
-nothing_readable = readable_from_parts [] refl refl tt
+nothing_readable = readable_from [] refl tt
 
 pub begun : (text : List ℕ) → 1 ≤ length text → get_or text 0 0 ≡ 1 → HasReadTo text [] [] 1
 begun text some first = record {
@@ -135,14 +115,9 @@ begun text some first = record {
   last_is = refl;
 }
 
-all_more : {A : Type 0} (test : A → Bool) (xs : List A) (x : A) → list_all test xs ≡ true → test x ≡ true → list_all test (xs ++ x ∷ []) ≡ true
-all_more test xs x p q = list_all-append test xs (x ∷ []) ∙ and_from (list_all test xs) _ p (and_from (test x) true q refl)
-
 readable_more : (table : Entities) (e : Entry) → IsReadable table → is_table_entry e ≡ true → slice_cmp nat_cmp (last_key (map (λ e. e.key) table)) e.key ≡ Less → IsReadable (table ++ e ∷ [])
 readable_more table e was is below =
-    let ones : is_one_or_two e.stands_for ≡ true = (and_parts (is_key e.key) _ is).1 in
-    readable_from_parts (table ++ e ∷ []) (all_more (λ (e : Entry). is_key e.key) table e was.sorted.is_table.keys (and_parts (is_key e.key) _ is).0)
-    (all_more (λ (e : Entry). is_one_or_two e.stands_for) table e was.characters ones)
+    readable_from (table ++ e ∷ []) (list_all-append is_table_entry table (e ∷ []) ∙ and_from _ _ (are_entries table was) (and_from _ true is refl))
     (subst (IsStrictlySortedBy (slice_cmp nat_cmp)) (sym (map-append (λ (e : Entry). e.key) table (e ∷ []))) (sorted_more (map (λ e. e.key) table) e.key was.sorted.sorted below))
 
 is_less : (a b : List ℕ) → is_lt (slice_cmp nat_cmp a b) ≡ true → slice_cmp nat_cmp a b ≡ Less

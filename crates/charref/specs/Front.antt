@@ -1,5 +1,5 @@
 -- What is at the front of the rest of a flat form.
-use Rattle.std.specs.Prelude.{◌≡◌, ℕ, ◌+◌, ◌*◌, ◌≤◌, get_or, ◌<◌, Bool, true, false, ◌&&◌, ◌==◌, nat_le, List, ◌∷◌, ◌++◌, length, take, drop, slice_get, Option, Some, None}
+use Rattle.std.specs.Prelude.{◌≡◌, ℕ, ◌+◌, ◌*◌, ◌≤◌, get_or, ◌<◌, Bool, true, ◌&&◌, nat_le, List, [], ◌∷◌, ◌++◌, length, take, drop}
 use Rattle.charref.specs.declared.entries.Entity.{Entity}
 use Rattle.charref.specs.Reference.{Entry, is_key}
 use Rattle.charref.specs.Table.{entry, is_inside}
@@ -14,26 +14,24 @@ pub record BeginsWith (form bytes : List ℕ) (count : ℕ) : Type 0 where
   pub within : count ≤ length bytes
   pub is : bytes ≡ form ++ drop count bytes
 
--- whether there is a byte, and it passes
-abbrev pub passes_byte : (ℕ → Bool) → Option ℕ → Bool
-passes_byte test None = false
-passes_byte test (Some byte) = test byte
-
+-- the byte after a key, which no key has
 abbrev pub is_count : ℕ → Bool
 is_count byte = nat_le byte 2
 
-abbrev pub is_semicolon : ℕ → Bool
-is_semicolon byte = byte == 59
+-- whether the bytes end, or begin with a count
+abbrev pub ends_key : List ℕ → Bool
+ends_key [] = true
+ends_key (byte ∷ rest) = is_count byte
 
--- The first bytes, so many, pass as a whole, and a count comes after them.
-pub record IsCounted (test : List ℕ → Bool) (bytes : List ℕ) (size : ℕ) : Type 0 where
-  pub within : size < length bytes
-  pub passing : test (take size bytes) ≡ true
-  pub counted : passes_byte is_count (slice_get bytes size) ≡ true
+-- The first bytes, so many, are a key, and the only one after which the bytes end or a count comes.
+pub record IsOnlyKey (bytes : List ℕ) (size : ℕ) : Type 0 where
+  pub within : size ≤ length bytes
+  pub passing : is_key (take size bytes) ≡ true
+  pub only : (key rest : List ℕ) → is_key key ≡ true → ends_key rest ≡ true → bytes ≡ key ++ rest → length key ≡ size
 
--- No first bytes do.
-abbrev pub HasNoCounted : (List ℕ → Bool) → List ℕ → Type 0
-HasNoCounted test bytes = (key rest : List ℕ) (count : ℕ) → test key ≡ true → is_count count ≡ true → bytes ≡ key ++ count ∷ rest → ⊥
+-- There is none.
+abbrev pub HasNoKey : List ℕ → Type 0
+HasNoKey bytes = (key rest : List ℕ) → is_key key ≡ true → ends_key rest ≡ true → bytes ≡ key ++ rest → ⊥
 
 abbrev pub is_table_entry : Entry → Bool
 is_table_entry e = is_key e.key && is_one_or_two e.stands_for

@@ -1,7 +1,7 @@
 -- The words of the contracts, in one place.
 pub use Rattle.charref.specs.AtOnce.{HasSign, HasWhole, IsOpenKeyOf, Settles, SettlesNothing}
 pub use Rattle.charref.specs.Flat.{flat_character, flat_characters, flat_entry, flat_of, is_one_or_two, IsReadable, IsRefusedFlat}
-pub use Rattle.charref.specs.Front.{BeginsWith, BeginsWithNone, HasNoCounted, is_count, is_table_entry, is_semicolon, IsCounted, IsEntity, IsEntryTo, passes_byte}
+pub use Rattle.charref.specs.Front.{BeginsWith, BeginsWithNone, HasNoKey, is_table_entry, IsEntity, IsEntryTo, IsOnlyKey}
 pub use Rattle.charref.specs.Held.{is_number, IsHeldReference, IsSign, key_bytes}
 pub use Rattle.charref.specs.Last.{goes_on_name, is_kept_before, is_letter_or_digit, IsSettled, last_of}
 pub use Rattle.charref.specs.Number.{is_digit_of, radix}

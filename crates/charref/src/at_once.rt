@@ -4,7 +4,6 @@ ghost use Rattle.std.specs.Prelude.{◌≡◌, ◌<◌, ◌≤◌, ℕ, List, tr
 ghost use Rattle.charref.specs.Vocabulary.{is_ascii, list_all, Placed, placed, IsTable, IsRead, is_search_within, HasSign, HasWhole, Settles, SettlesNothing};
 
 use crate::flat::Flat;
-use crate::key::is_alphanumeric;
 use crate::last::Last;
 use crate::number::Base;
 use crate::reference::Reference;
@@ -16,7 +15,8 @@ use crate::walking::{decided, number, unknown};
 
 impl<'t> Walk<'t> {
     /// What is at an `&` outside an attribute value after which these bytes come, and how many of them settle it, whatever comes
-    /// after them; `None` where they settle nothing, as also where a character that is not ASCII comes before they do.
+    /// after them; `None` where they settle nothing, as also where a character that is not ASCII comes before they do. At once
+    /// where it is a key that ends in a `;`, or an `&` before a letter or digit with which no key begins.
     #[inline(always)]
     pub fn settled(table: &Table, bytes: &[u8]) -> Option<(Reference, usize)>
         ensures table { IsTable table.now }
@@ -26,37 +26,28 @@ impl<'t> Walk<'t> {
             → IsRead table.now false (placed at (take it.1 bytes.now)) after it.0) }
         ensures none { IsNone result → SettlesNothing table.now bytes.now }
     {
-        settled(table, bytes)
-    }
-}
-
-/// The same: at once where it is a key that ends in a `;`, or an `&` before a letter or digit with which no key begins.
-#[inline(always)]
-fn settled(table: &Table, bytes: &[u8]) -> Option<(Reference, usize)>
-    ensures table { IsTable table.now }
-    ensures settles { MatchOption result (SettlesNothing table.now bytes.now) (λ it. Settles table.now bytes.now it.1 it.0) }
-{
-    if let Some(first) = bytes.first() {
-        let first = *first;
-        if is_alphanumeric(first)
-            && let Some(search) = Search::after_first(
-                &table.flat,
-                &table.starts,
-                char::from(first),
-            )
-        {
-            if search.is_over() {
-                return Some((unknown(1, Last::Alphanumeric), 1));
-            }
-            if let Some(place) = whole_place(table, search, bytes) {
-                return Some(whole_key(table, place));
+        if let Some(first) = bytes.first() {
+            let first = *first;
+            if first.is_ascii_alphanumeric()
+                && let Some(search) = Search::after_first(
+                    &table.flat,
+                    &table.starts,
+                    char::from(first),
+                )
+            {
+                if search.is_over() {
+                    return Some((unknown(1, Last::Alphanumeric), 1));
+                }
+                if let Some(place) = whole_place(table, search, bytes) {
+                    return Some(whole_key(table, place));
+                }
             }
         }
-    }
-    // (taken apart and put together again: so the result comes back in registers, and not through memory)
-    match settled_otherwise(table, bytes) {
-        Some((found, count)) => Some((found, count)),
-        None => None,
+        // (taken apart and put together again: so the result comes back in registers, and not through memory)
+        match settled_otherwise(table, bytes) {
+            Some((found, count)) => Some((found, count)),
+            None => None,
+        }
     }
 }
 

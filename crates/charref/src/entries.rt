@@ -1,9 +1,9 @@
 //! The entries of a table, and how they are written to its flat form and read from it.
 
-ghost use Rattle.std.specs.Prelude.{◌≡◌, ◌+◌, ◌*◌, ◌≤◌, Some, None, IfSome, length, drop, ◌++◌, OnOk, if◌then◌else◌, true, IfOk, IfErr, MatchOption};
+ghost use Rattle.std.specs.Prelude.{◌≡◌, ◌+◌, ◌*◌, ◌≤◌, Some, None, length, drop, ◌++◌, OnOk, if◌then◌else◌, true, IfOk, IfErr, MatchOption};
 ghost use Rattle.charref.specs.Vocabulary.{All, is_character, characters_of, entries, is_one_or_two, flat_character, flat_characters, flat_entry, flat_of, IsReadable, IsRefusedFlat, BeginsWith, BeginsWithNone, is_table_entry, IsEntity, IsEntryTo};
 
-use crate::key::{is_key_before, key_at_front, short_key_at_front};
+use crate::key::{is_key_before, key_at_front};
 use crate::reference::Characters;
 use names::{Refusal, TableFault};
 use std::alloc::{AllocError, Global};
@@ -94,27 +94,9 @@ pub(crate) fn characters_at_front(bytes: &[u8]) -> Option<Characters>
     }
 }
 
-/// An entry with a short key, of at most 15 letters and digits, has no more bytes than this.
-const SHORT: usize = 32;
-
-/// A count and two characters have so many bytes.
-const CHARACTERS: usize = 9;
-
-/// Where the key of the entry at `start` ends, if it is short. (Where this finds none there may be one.)
-#[inline(always)]
-fn short_key_end(text: &[u8], start: usize) -> Option<usize>
-    requires { start + SHORT ≤ length text.now }
-    ensures { IfSome result (λ end. IsEntryTo text.now start end) }
-{
-    let rest = &text[start..];
-    let size = short_key_at_front(rest)?;
-    characters_at_front(&rest[size..size + CHARACTERS])?;
-    Some(start + size)
-}
-
 /// Where the key of the entry at `start` ends.
-#[inline(never)]
-fn any_key_end(text: &[u8], start: usize) -> Option<usize>
+#[inline(always)]
+fn key_end(text: &[u8], start: usize) -> Option<usize>
     requires { start ≤ length text.now }
     ensures { MatchOption result (BeginsWithNone is_table_entry flat_entry (drop start text.now)) (IsEntryTo text.now start) }
 {
@@ -122,20 +104,6 @@ fn any_key_end(text: &[u8], start: usize) -> Option<usize>
     let size = key_at_front(rest)?;
     characters_at_front(&rest[size..])?;
     Some(start + size)
-}
-
-/// Where the key of the entry at `start` ends. Most are short.
-#[inline(always)]
-fn key_end(text: &[u8], start: usize) -> Option<usize>
-    requires { start ≤ length text.now }
-    ensures { MatchOption result (BeginsWithNone is_table_entry flat_entry (drop start text.now)) (IsEntryTo text.now start) }
-{
-    if text.len() - start >= SHORT
-        && let Some(end) = short_key_end(text, start)
-    {
-        return Some(end);
-    }
-    any_key_end(text, start)
 }
 
 /// No entry has fewer bytes than this.

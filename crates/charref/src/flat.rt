@@ -9,7 +9,7 @@ ghost use Rattle.charref.specs.Flat.{flat_of, IsReadable, IsRefusedFlat};
 ghost use Rattle.charref.specs.Pieces.{characters_of};
 
 use crate::entries::{Entity, characters_at_front, entities_of};
-use crate::key::{AT_ONCE, begin_at_once, begin_with};
+use crate::key::{AT_ONCE, begin_at_once};
 use crate::reference::Characters;
 use names::Refusal;
 use std::alloc::Global;
@@ -91,6 +91,6 @@ impl Flat {
         if count <= AT_ONCE && name.len() >= AT_ONCE && bytes.len() >= AT_ONCE {
             return begin_at_once(bytes, name, count);
         }
-        begin_with(bytes, &name[..count])
+        bytes.starts_with(&name[..count])
     }
 }

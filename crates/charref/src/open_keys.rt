@@ -5,7 +5,6 @@ ghost use Rattle.std.specs.Prelude.{◌≡◌, ◌+◌, ◌<◌, length, get_or,
 ghost use Rattle.charref.specs.Vocabulary.{All, AreEnds, Entities, Entry, IsOpenKey, IsOpenKeyOf, IsRange, IsSortedTable};
 
 use crate::flat::Flat;
-use crate::key::begin_with;
 use crate::search::{Search, code_at};
 use crate::walking::ends_in_semicolon;
 use std::alloc::{AllocError, Global};
@@ -53,7 +52,7 @@ fn end_of(flat: &Flat, index: usize, ends: &[usize]) -> usize
     if ends_in_semicolon(key) {
         return end;
     }
-    while end < flat.len() && begin_with(flat.key(end), key) {
+    while end < flat.len() && flat.key(end).starts_with(key) {
         end = ends[end];
     }
     end

@@ -1,7 +1,7 @@
 //! Reading a table from JSON text.
 
-ghost use Rattle.std.specs.Prelude.{◌≡◌, ℕ, List, ◌++◌, Ok, Err, Some, IfOk, IfErr, option_map};
-ghost use Rattle.charref.specs.Vocabulary.{get, as_str, as_array, TableFault, view, items_view, members_view, IsMemory, Entry, Entities, codepoint, codepoints, fields, entry_of_json, entry_of_characters, entities_of, table_of_json, IsRefusedWith, characters_of, flat_entry, flat_of, IsStrictlySortedBy, keys_of, string_cmp};
+ghost use Rattle.std.specs.Prelude.{◌≡◌, ℕ, List, ◌++◌, true, Ok, Err, Some, IfOk, IfErr, IfSome, option_map};
+ghost use Rattle.charref.specs.Vocabulary.{get, as_str, as_array, TableFault, view, items_view, members_view, IsMemory, Entry, Entities, codepoint, codepoints, fields, entry_of_json, entry_of_characters, entities_of, table_of_json, IsRefusedWith, characters_of, flat_entry, flat_of, is_one_or_two, is_table_entry, IsReadable};
 
 use crate::entries::{add_flat, character};
 use crate::key::is_key;
@@ -20,7 +20,8 @@ fn codepoint(value: &Value) -> Option<char>
 
 /// The characters of a list of one or two numbers.
 fn codepoints(list: &[Value]) -> Option<Characters>
-    ensures { option_map characters_of result ≡ codepoints (items_view list.now) }
+    ensures value { option_map characters_of result ≡ codepoints (items_view list.now) }
+    ensures few { IfSome result (λ it. is_one_or_two (characters_of it) ≡ true) }
 {
     match list {
         [only] => Some(Characters::One(codepoint(only)?)),
@@ -56,27 +57,10 @@ fn json_fault(error: Error) -> Refusal
     }
 }
 
-/// The characters of an entry, by its list and its text, which is compared with what is written of the characters into `room`.
-fn characters_with(room: &mut String, list: &[Value], text: &str) -> Result<Characters, Refusal>
-    ensures ok { IfOk result (λ characters. (key : List ℕ) → entry_of_characters key text.now (codepoints (items_view list.now))
-        ≡ Ok (record { key = key; stands_for = characters_of characters })) }
-    ensures err { IfErr result (λ e. (key : List ℕ) → IsRefusedWith (entry_of_characters key text.now (codepoints (items_view list.now))) e) }
-{
-    let Some(characters) = codepoints(list) else {
-        return Err(fault(TableFault::Codepoints));
-    };
-    room.clear();
-    characters.push_to(room)?;
-    if text == room.as_str() {
-        Ok(characters)
-    } else {
-        Err(fault(TableFault::Characters))
-    }
-}
-
-/// The characters that a key stands for, by its value.
-fn characters_of(room: &mut String, key: &str, value: &Value) -> Result<Characters, Refusal>
-    ensures ok { IfOk result (λ characters. entry_of_json key.now (view value.now) ≡ Ok (record { key = key.now; stands_for = characters_of characters })) }
+/// Appends the entry of a key and its value to a flat form. Its text is compared with what is written of its characters into `room`.
+fn add_entry(flat: &mut Vec<u8>, room: &mut String, key: &str, value: &Value) -> Result<(), Refusal>
+    ensures ok { IfOk result (λ _. (e : Entry) × (entry_of_json key.now (view value.now) ≡ Ok e) × (e.key ≡ key.now) × (is_table_entry e ≡ true)
+        × (flat.new.items ≡ flat.old.items ++ flat_entry e)) }
     ensures err { IfErr result (λ e. IsRefusedWith (entry_of_json key.now (view value.now)) e) }
 {
     if !is_key(key.as_bytes()) {
@@ -85,22 +69,20 @@ fn characters_of(room: &mut String, key: &str, value: &Value) -> Result<Characte
     let Some((list, text)) = fields(value) else {
         return Err(fault(TableFault::Shape));
     };
-    characters_with(room, list, text)
-}
-
-/// Appends the entry of a key and its value to a flat form.
-fn add_entry(flat: &mut Vec<u8>, room: &mut String, key: &str, value: &Value) -> Result<(), Refusal>
-    ensures ok { IfOk result (λ _. (e : Entry) × (entry_of_json key.now (view value.now) ≡ Ok e) × (flat.new.items ≡ flat.old.items ++ flat_entry e)) }
-    ensures err { IfErr result (λ e. IsRefusedWith (entry_of_json key.now (view value.now)) e) }
-{
-    let characters = characters_of(room, key, value)?;
+    let Some(characters) = codepoints(list) else {
+        return Err(fault(TableFault::Codepoints));
+    };
+    room.clear();
+    characters.push_to(room)?;
+    if text != room.as_str() {
+        return Err(fault(TableFault::Characters));
+    }
     Ok(add_flat(flat, key.as_bytes(), characters)?)
 }
 
 /// The flat form of an object's members.
 fn flat_of(alloc: Global, members: &Map<String, Value>) -> Result<Vec<u8>, Refusal>
-    ensures ok { IfOk result (λ flat. (table : Entities) × (entities_of (members_view members.now.entries) ≡ Ok table) × (flat_of table ≡ flat.items)) }
-    ensures sorted { IfOk result (λ _. IsStrictlySortedBy string_cmp (keys_of members.now.entries)) }
+    ensures ok { IfOk result (λ flat. (table : Entities) × (entities_of (members_view members.now.entries) ≡ Ok table) × IsReadable table × (flat_of table ≡ flat.items)) }
     ensures err { IfErr result (λ e. IsRefusedWith (entities_of (members_view members.now.entries)) e) }
 {
     let mut flat = Vec::from_slice(alloc, &[1])?;
@@ -124,15 +106,6 @@ impl Table {
         let Some(members) = value.as_object() else {
             return Err(fault(TableFault::Shape));
         };
-        Table::of_members(alloc, members)
-    }
-
-    /// The table of an object's members.
-    fn of_members(alloc: Global, members: &Map<String, Value>) -> Result<Table, Refusal>
-        ensures ok { IfOk result (λ table. entities_of (members_view members.now.entries) ≡ Ok table) }
-        ensures err { IfErr result (λ e. IsRefusedWith (entities_of (members_view members.now.entries)) e) }
-    {
-        let flat = flat_of(alloc, members)?;
-        Table::of_flat(alloc, flat, true)
+        Table::of_flat(alloc, flat_of(alloc, members)?, true)
     }
 }

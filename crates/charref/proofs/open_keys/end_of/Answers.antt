@@ -31,15 +31,15 @@ loop-end-preserved c =
       omega (arith, c.loop-end.invariant.0, ends_later table at _ f c.key.ensures.1 range),
       range.within,
       λ e stands. more_begin table e.key c.args.index at _ f (c.loop-end.invariant.2 e stands)
-          (rw (sym c.key.ensures.2, same_key table c.args.index c.key-key.ensures.0 e c.key-key.result.now c.key-key.ensures.1 c.key-key.ensures.2 stands) (sym c.begin_with.ensures ∙ c.if-begin_with.true)) range,
+          (rw (sym c.key.ensures.2, same_key table c.args.index c.key-key.ensures.0 e c.key-key.result.now c.key-key.ensures.1 c.key-key.ensures.2 stands) (sym c.starts_with.ensures.value ∙ c.if-starts_with.true)) range,
     )
 
-pub returns-else-begin_with : goal.returns-else-begin_with
-returns-else-begin_with c = λ e stands.
+pub returns-else-starts_with : goal.returns-else-starts_with
+returns-else-starts_with c = λ e stands.
     let key-is = same_key c.args.flat.now c.args.index c.key-key.ensures.0 e c.key-key.result.now c.key-key.ensures.1 c.key-key.ensures.2 stands in
     range_ends c.args.flat.now c.args.index c.loop-end.end e c.requires.sorted stands c.loop-end.invariant.0 c.loop-end.invariant.1 (c.loop-end.invariant.2 e stands)
     (λ f got opens. let next-is = same_key c.args.flat.now c.loop-end.end c.key.ensures.0 f c.key.result.now c.key.ensures.1 c.key.ensures.2 got in
-    false≢true (sym c.if-begin_with.false ∙ c.begin_with.ensures ∙ (rw (next-is, key-is) at opens)))
+    false≢true (sym c.if-starts_with.false ∙ c.starts_with.ensures.value ∙ (rw (next-is, key-is) at opens)))
 
 pub returns-after-loop-end : goal.returns-after-loop-end
 returns-after-loop-end c = λ e stands.

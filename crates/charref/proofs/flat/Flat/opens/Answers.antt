@@ -20,5 +20,5 @@ returns c =
     let some : e.start < e.end = key_some text c.self.inside.entities.items c.args.self.now c.args.index e c.self.invariant.1 c.self.view_is c.requires c.index-entity.ensures in (
       entry text e,
       entry_in text c.self.inside.entities.items c.args.self.now c.args.index e c.self.view_is c.requires c.index-entity.ensures,
-      opens_named text c.args.bytes.now e.start e.end _ some (subst (λ (x : List ℕ). c.begin_with.result ≡ starts_with nat_eq c.args.bytes.now (take (e.end - e.start - 1) (take (length x - (e.start + 1)) (drop (e.start + 1) x)))) c.deref.ensures.value c.begin_with.ensures),
+      opens_named text c.args.bytes.now e.start e.end _ some (subst (λ (x : List ℕ). c.starts_with.result ≡ starts_with nat_eq c.args.bytes.now (take (e.end - e.start - 1) (take (length x - (e.start + 1)) (drop (e.start + 1) x)))) c.deref.ensures.value c.starts_with.ensures.value),
     )

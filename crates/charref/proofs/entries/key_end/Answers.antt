@@ -1,16 +1,16 @@
-use Rattle.charref.proofs.Names.{◌≡◌, ℕ, List, ◌+◌, ◌*◌, length, drop, take, ◌-◌, ap, ◌∙◌, subst, take_rest, drop-drop, is_key, characters_of, is_one_or_two, flat_characters, flat_entry, BeginsWith, BeginsWithNone, IsCounted, is_table_entry}
+use Rattle.charref.proofs.Names.{take_rest, drop-drop, ap, ◌∙◌, ◌≡◌, ℕ, ◌+◌, ◌-◌, ◌*◌, List, length, take, drop, subst, BeginsWith, BeginsWithNone, IsOnlyKey, characters_of, is_table_entry, is_one_or_two, flat_entry, flat_characters}
 use Rattle.charref.proofs.ReadingFlat.{no_entry_key, no_entry_characters, entry_stands}
-use Rattle.charref.proofs.entries.any_key_end.Goals as goal
+use Rattle.charref.proofs.entries.key_end.Goals as goal
 
 pub returns-in_err-size : goal.returns-in_err-size
-returns-in_err-size c = rw c.from_residual.ensures (subst (λ bs. BeginsWithNone is_table_entry flat_entry bs) (take_rest c.args.text.now c.args.start) (no_entry_key _ c.in_err-size.ensures))
+returns-in_err-size c = rw c.from_residual.ensures (subst (BeginsWithNone is_table_entry flat_entry) (take_rest c.args.text.now c.args.start) (no_entry_key _ c.in_err-size.ensures))
 
 pub returns-in_err-characters_at_front : goal.returns-in_err-characters_at_front
 returns-in_err-characters_at_front c =
     let text : List ℕ = c.args.text.now in
     let rest : List ℕ = take (length text - c.args.start) (drop c.args.start text) in
-    rw c.from_residual-in_err-characters_at_front.ensures (subst (λ bs. BeginsWithNone is_table_entry flat_entry bs) (take_rest text c.args.start)
-    (no_entry_characters rest c.in_ok-size.size c.in_ok-size.ensures (subst (λ bs. BeginsWithNone is_one_or_two flat_characters bs) (take_rest rest c.in_ok-size.size) c.in_err-characters_at_front.ensures)))
+    rw c.from_residual-in_err-characters_at_front.ensures (subst (BeginsWithNone is_table_entry flat_entry) (take_rest text c.args.start)
+    (no_entry_characters rest c.in_ok-size.size c.in_ok-size.ensures (subst (BeginsWithNone is_one_or_two flat_characters) (take_rest rest c.in_ok-size.size) c.in_err-characters_at_front.ensures)))
 
 pub returns : goal.returns
 returns c =
@@ -19,7 +19,7 @@ returns c =
     let size = c.in_ok-size.size in
     let cs = c.in_ok-characters_at_front.field-0 in
     let rest : List ℕ = take (length text - start) (drop start text) in
-    let key : IsCounted is_key (drop start text) size = subst (λ bs. IsCounted is_key bs size) (take_rest text start) c.in_ok-size.ensures in
+    let key : IsOnlyKey (drop start text) size = subst (λ bs. IsOnlyKey bs size) (take_rest text start) c.in_ok-size.ensures in
     let after : take (length rest - size) (drop size rest) ≡ drop (start + size) text = take_rest rest size ∙ ap (drop size) (take_rest text start) ∙ drop-drop size start text in
     entry_stands text start size cs c.requires key.within key.passing c.in_ok-characters_at_front.ensures.0
     (subst (λ bs. BeginsWith (flat_characters (characters_of cs)) bs (1 + 4 * length (characters_of cs))) after c.in_ok-characters_at_front.ensures.1)
