@@ -1,5 +1,5 @@
 -- Open nodes that were made.
-use Rattle.hadopt.proofs.Names.{◌≡◌, ℕ, zero, suc, ◌+◌, ◌<◌, ◌≤◌, Bool, true, List, [], ◌∷◌, ◌++◌, Option, Some, None, cond_both, some_same, refl, sym, subst, arith, drop, take, find, slice_get, reverse, reverse_onto, option_map, IfSome, OnOk, OnErr, Result, Nodes, make, What, open_of, OpenNode, OpenNodes, current, Refusal, popped_past, Each, AreMade}
+use Rattle.hadopt.proofs.Names.{◌≡◌, ℕ, zero, suc, ◌+◌, ◌<◌, ◌≤◌, Bool, true, List, [], ◌∷◌, ◌++◌, Option, Some, None, cond_both, some_same, refl, sym, subst, arith, drop, take, find, slice_get, reverse, reverse_onto, option_map, IfSome, OnOk, OnErr, Result, open_of, OpenNode, OpenNodes, current, popped_past, Each, AreMade}
 use Rattle.std.specs.Prelude.{Ok, Err}
 use Rattle.hopen.specs.declared.stack.Open.{Open}
 use Rattle.hadopt.proofs.Lists.{each-map}
@@ -51,11 +51,6 @@ past-step test [] x is passes = cc
 past-step test (y ∷ up) x is passes =
     let same : y ≡ x = cc in
     rw (same, passes) refl
-
--- a call that makes a node, or changes nothing
-pub made-after_make : {A : Type 0} (r : Result A Refusal) (old new : Nodes ℕ) (w : What ℕ) (stack : List (OpenNode ℕ)) → OnOk r (new ≡ make w old) → OnErr r (new ≡ old) → AreMade old.made stack → AreMade new.made stack
-made-after_make (Ok a) old new w stack ok err made = rw ok (more old.made (old.made + 1) stack (omega arith) made)
-made-after_make (Err e) old new w stack ok err made = rw err made
 
 -- a call that changes the open nodes, or nothing
 pub made-after : {A E : Type 0} (r : Result A E) (k : ℕ) (open_now : List (OpenNode ℕ)) (old new : OpenNodes ℕ) → OnOk r (new ≡ record old { stack = open_now }) → OnErr r (new ≡ old) → AreMade k open_now → AreMade k old.stack → AreMade k new.stack

@@ -12,5 +12,6 @@ pub mod Mapped
 pub mod Soundness
 pub mod Made
 pub mod Meets
+pub mod Creates
 pub mod InnerLoops
 pub mod AfterInnerLoop

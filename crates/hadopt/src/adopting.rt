@@ -1,17 +1,18 @@
 //! The adoption agency algorithm (HTML Standard, `#adoption-agency-algorithm`), with the numbers of its steps.
 
-ghost use Rattle.std.specs.Prelude.{◌≡◌, ℕ, ◌<◌, ◌≤◌, ◌+◌, IfOk, None, ◌*◌, map, OnOk, true, false};
+ghost use Rattle.std.specs.Prelude.{◌≡◌, ℕ, ◌<◌, ◌≤◌, ◌+◌, IfOk, None, ◌*◌, OnOk, true, false};
 ghost use Rattle.std.specs.Option.{option_map};
 ghost use Rattle.hadopt.specs.Vocabulary.{most_kept, node_replaced, inner_turn, inner_loop, after_inner_loop, with_furthest_block, with_formatting_element, outer_turn, outer_loop, is_unlisted, AfterInnerLoop};
 ghost use Rattle.hadopt.specs.Vocabulary.{WithFurthestBlock, AreDifferent, inner_loop_of, InnerLoopGives, TurnGives, IsPlace, graft, place_node, element, IsOutside};
-ghost use Rattle.hadopt.specs.Vocabulary.{attribute_of, Place, without, open_of, is_node, is_open, Gives, made, Goes, stack, trees, with_stack, with_trees, before, furthest_block, entry_is, numbers, and_then};
+ghost use Rattle.hadopt.specs.Vocabulary.{without, open_of, is_node, is_open, Gives, made, Goes, stack, trees, with_stack, with_trees, before, furthest_block, entry_is, numbers, and_then};
 ghost use Rattle.hadopt.specs.Vocabulary.{adopted, IsSound, changed, item_put_before, EntryOf, InPlace, move_all, above, is_in_scope, stops_node, tag_of, Default};
 
+use crate::insertion::NewAttributes;
 use crate::listing::copy;
 use crate::site::Site;
-use hnodes::{Attributes, NodeId, Place};
+use hnodes::{NodeId, Place};
 use hopen::{Bookmark, Entry, Open};
-use names::{Attr, ErrorCode, NameId, Refusal};
+use names::{ErrorCode, NameId, Refusal};
 use std::alloc::AllocError;
 
 /// How a turn of the outer loop ends: another one comes, or the algorithm returns.
@@ -53,7 +54,7 @@ impl Site {
         ensures last_node { IfOk result (λ c. (0 < c.last_node) × (c.last_node < self.new.nodes.made)) }
         ensures few { self.new.nodes.made ≤ self.old.nodes.made + 1 }
     {
-        let new = self.create_sharing(entry.name, entry.attrs, at)?;
+        let new = self.create(entry.name, NewAttributes::Shared(entry.attrs), at)?;
         self.note_again(new, entry.node)?;
         // Step 4.13.8
         self.graft(inner.last_node, Place::LastIn(new));
@@ -161,7 +162,11 @@ impl Site {
         let place = self.place_in(common_ancestor);
         self.graft(inner.last_node, place);
         // Step 4.15
-        let new = self.create_sharing(formatting_element.name, formatting_element.attrs, at)?;
+        let new = self.create(
+            formatting_element.name,
+            NewAttributes::Shared(formatting_element.attrs),
+            at,
+        )?;
         self.note_again(new, formatting_element.node)?;
         // Steps 4.16 and 4.17
         self.move_children(furthest_block, new);
@@ -305,60 +310,6 @@ impl Site {
             return Ok(());
         }
         self.outer_loop(MOST_TURNS, subject, at)
-    }
-
-    /// Makes a new element, which has no parent yet.
-    #[inline(always)]
-    pub(crate) fn create(
-        &mut self,
-        name: NameId,
-        attrs: &mut Vec<Attr>,
-        at: u64,
-    ) -> Result<NodeId, Refusal>
-        ensures done { Gives result self.new (made at (element name (map attribute_of attrs.old.items)) self.old) }
-        ensures number { IfOk result (λ n. (n ≡ self.old.nodes.made) × (0 < n)) }
-        ensures outside { IfOk result (λ n. (k : ℕ) → k < n → IsOutside k n (trees self.new)) }
-        ensures apart { IfOk result (λ n. (k : ℕ) → k < n → IsOutside n k (trees self.new)) }
-        ensures places { IfOk result (λ n. (p : Place) → IsPlace p self.old.nodes → IsPlace p self.new.nodes) }
-        ensures few { self.new.nodes.made ≤ self.old.nodes.made + 1 }
-    {
-        self.tree.create_element_from(name, attrs, at)
-    }
-
-    /// Creates an element for a token (`#create-an-element-for-the-token`), whose attributes it shares.
-    #[inline(always)]
-    pub(crate) fn create_sharing(
-        &mut self,
-        name: NameId,
-        attrs: Attributes,
-        at: u64,
-    ) -> Result<NodeId, Refusal>
-        ensures done { Gives result self.new (made at (element name attrs) self.old) }
-        ensures number { IfOk result (λ n. (n ≡ self.old.nodes.made) × (0 < n)) }
-        ensures outside { IfOk result (λ n. (k : ℕ) → k < n → IsOutside k n (trees self.new)) }
-        ensures apart { IfOk result (λ n. (k : ℕ) → k < n → IsOutside n k (trees self.new)) }
-        ensures places { IfOk result (λ n. (p : Place) → IsPlace p self.old.nodes → IsPlace p self.new.nodes) }
-        ensures few { self.new.nodes.made ≤ self.old.nodes.made + 1 }
-    {
-        self.tree.create_sharing(name, attrs, at)
-    }
-
-    /// Creates an element for a token, of attributes that its entry shares.
-    #[inline(always)]
-    pub(crate) fn create_copying(
-        &mut self,
-        name: NameId,
-        attrs: &Attributes,
-        at: u64,
-    ) -> Result<NodeId, Refusal>
-        ensures done { Gives result self.new (made at (element name attrs.now) self.old) }
-        ensures number { IfOk result (λ n. (n ≡ self.old.nodes.made) × (0 < n)) }
-        ensures outside { IfOk result (λ n. (k : ℕ) → k < n → IsOutside k n (trees self.new)) }
-        ensures apart { IfOk result (λ n. (k : ℕ) → k < n → IsOutside n k (trees self.new)) }
-        ensures places { IfOk result (λ n. (p : Place) → IsPlace p self.old.nodes → IsPlace p self.new.nodes) }
-        ensures few { self.new.nodes.made ≤ self.old.nodes.made + 1 }
-    {
-        self.tree.create_copying(name, attrs, at)
     }
 
     /// Moves a node from where it is to a place.
