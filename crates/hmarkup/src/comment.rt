@@ -157,25 +157,6 @@ impl CommentWalk {
         Ok(false)
     }
 
-    /// Reads a run of characters of a comment.
-    fn take_run_in_comment<S: ErrorSink>(
-        &mut self,
-        run: &str,
-        at: u64,
-        errors: &mut S,
-    ) -> Result<(), Refusal>
-        requires { list_all is_only_data run.now ≡ true }
-        ensures { (text : List Placed) (raised : List Error) → IsInComment self.old text raised
-            → TakesRun S.gives IsInComment (IsCommentSpan Comment) text raised (placed at (chars run.now)) errors.old result self.new errors.new }
-    {
-        if run.is_empty() {
-            return Ok(());
-        }
-        let nested = self.opening.is_whole();
-        tell_if(nested, ErrorCode::NestedComment, at, errors)?;
-        Ok(self.keep_run(run)?)
-    }
-
     /// Keeps characters that are only data.
     fn keep_run(&mut self, run: &str) -> Result<(), AllocError>
         ensures { OnOk result (self.new ≡ next_run self.old run.now) }
@@ -217,8 +198,15 @@ impl CommentWalk {
         ensures { (kind : Kind) (text : List Placed) (raised : List Error) → HasReadOf kind self.old text raised
             → TakesRun S.gives (HasReadOf kind) (IsCommentSpan kind) text raised (placed at (chars run.now)) errors.old result self.new errors.new }
     {
+        if run.is_empty() {
+            return Ok(());
+        }
         match self.kind {
-            CommentKind::Comment => self.take_run_in_comment(run, at, errors),
+            CommentKind::Comment => {
+                let nested = self.opening.is_whole();
+                tell_if(nested, ErrorCode::NestedComment, at, errors)?;
+                Ok(self.keep_run(run)?)
+            }
             CommentKind::Bogus => Ok(self.text.push_str(run)?),
         }
     }

@@ -1,13 +1,13 @@
 //! The quirks list (HTML Standard, `#the-initial-insertion-mode`): the doctype identifiers that put a document into quirks mode.
 
-ghost use Rattle.std.specs.Prelude.{◌≡◌, ◌∷◌, ◌<◌, List, length, option_map, IfOk, MatchOption};
+ghost use Rattle.std.specs.Prelude.{◌≡◌, ◌∷◌, ◌<◌, List, length, option_map, MatchOption};
 ghost use Rattle.std.specs.Int.{is_in_range};
 ghost use Rattle.std.specs.List.{list_all};
 ghost use Rattle.std.specs.Str.{IsUtf8};
 ghost use Rattle.hmarkup.specs.Vocabulary.{quirk_word, IsWordless, IsQuirkLine, IsNoQuirkLine, lines, HasParts, Lacks, same_as, begins_as, line_matches, list_matches, ReadsQuirks};
 
 use names::Refusal;
-use std::alloc::{AllocError, Global};
+use std::alloc::Global;
 use std::marker::Model;
 
 /// What a line of the list is matched against.
@@ -110,17 +110,6 @@ fn read_line(line: &str) -> Option<(QuirkKind, &str)>
 }
 
 impl QuirksLine {
-    /// The line with this text, without its LF, if it has one of the four forms.
-    fn read(alloc: Global, line: &str) -> Result<Option<QuirksLine>, AllocError>
-        ensures { IfOk result (λ found. MatchOption found (IsNoQuirkLine line.now) (λ quirk. IsQuirkLine line.now quirk)) }
-    {
-        let Some((kind, text)) = read_line(line) else {
-            return Ok(None);
-        };
-        let text = String::from_str(alloc, text)?;
-        Ok(Some(QuirksLine { kind, text }))
-    }
-
     /// Whether the line matches these identifiers.
     fn matches(&self, public: Option<&str>, system: Option<&str>) -> bool
         ensures { result ≡ line_matches self.now (option_map (λ x. x.now) public.entry) (option_map (λ x. x.now) system.entry) }
@@ -161,12 +150,13 @@ impl Quirks {
         let mut rest = text;
         while !rest.is_empty() {
             let (line, after) = first_line(rest);
-            let Some(line) = QuirksLine::read(alloc, line)? else {
+            let Some((kind, text)) = read_line(line) else {
                 return Err(Refusal::BadQuirks {
                     line: lines.len() as u64 + 1,
                 });
             };
-            lines.push(line)?;
+            let text = String::from_str(alloc, text)?;
+            lines.push(QuirksLine { kind, text })?;
             rest = after;
         }
         Ok(Quirks { lines })

@@ -8,13 +8,13 @@ loop-rest-preserved c = record {
   before = c.loop-rest.invariant.before ++ c.first_line.result.0.now ∷ [];
   lines_are = c.loop-rest.invariant.lines_are ∙ ap (λ (x : List (List ℕ)). c.loop-rest.invariant.before ++ x) c.first_line.ensures.first
       ∙ sym (append_assoc c.loop-rest.invariant.before (c.first_line.result.0.now ∷ []) (lines c.first_line.result.1.now));
-  read = rw c.in_ok-push.ensures.items (are_more c.loop-rest.invariant.before c.first_line.result.0.now c.loop-rest.lines.items _ c.loop-rest.invariant.read (rw c.in-Some.is at c.in_ok-line.ensures));
+  read = rw (c.in_ok-push.ensures.items, c.in_ok-text.ensures.ok) (are_more c.loop-rest.invariant.before c.first_line.result.0.now c.loop-rest.lines.items _ c.loop-rest.invariant.read c.in-Some.ensures);
 }
 
 pub returns-in_default : goal.returns-in_default
 returns-in_default c =
     at_bad_line c.args.text.now c.loop-rest.rest.now _ c.first_line.result.1.now c.loop-rest.invariant.before c.loop-rest.lines.items c.len.result c.loop-rest.invariant.lines_are c.loop-rest.invariant.read c.first_line.ensures.first
-    (rw c.in_default.is at c.in_ok-line.ensures) (omega arith)
+    c.in_default.ensures (omega arith)
 
 pub returns : goal.returns
 returns c = at_end c.args.text.now c.loop-rest.rest.now c.loop-rest.invariant.before _ c.loop-rest.invariant.lines_are c.loop-rest.invariant.read (grind (arith, nat_tests))
