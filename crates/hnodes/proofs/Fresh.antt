@@ -1,8 +1,12 @@
 -- A node that was just made is outside of every place.
-use Rattle.hnodes.proofs.Names.{◌≡◌, ◌≢◌, ℕ, suc, ◌<◌, [], ◌∷◌, ◌++◌, length, Option, Some, None, refl, sym, ◌∙◌, ap, subst, arith, IsSome, eq-eqb, ne_eqb, lt-leb, What, Forest, none, tree, times, join, tree_at, IsOutside, spot_of, spot_below, either_of, parent_of, Nodes, make, IsPlace, place_node, Place, LastIn, Before, row_alone, row_of, nodes_in, AreTree, Holds, IsGrown, IsKept, Node, NodeData, Store, Inside}
+use Rattle.hnodes.proofs.Names.{◌≡◌, ◌≢◌, ℕ, suc, ◌<◌, [], ◌∷◌, ◌++◌, length, Option, Some, None, refl, sym, ◌∙◌, ap, subst, arith, IsSome, eq-eqb, ne_eqb, lt-leb, What, Forest, none, tree, times, join, tree_at, IsOutside, spot_of, spot_below, either_of, parent_of, Nodes, make, IsPlace, Place, LastIn, Before, row_alone, row_of, nodes_in, AreTree, Holds, IsGrown, IsKept, Node, NodeData, Store, Inside, inr}
+use Rattle.std.proofs.Common.{Result, Ok, Err, IsErrAnd}
+use Rattle.hnodes.specs.Makes.{Makes}
+use Rattle.names.specs.declared.refusal.Refusal.{Refusal}
+use Rattle.names.specs.declared.refusal.Refusal.TheVariants.{Memory}
 use Rattle.hnodes.proofs.Forests.{tree_at-absent}
 use Rattle.hnodes.proofs.Inside.{tree_at-joined, tree_at-among}
-use Rattle.hnodes.proofs.Opened.{Opened, grew, stayed, stayed_view}
+use Rattle.hnodes.proofs.Opened.{Opened, begun_made, edited, edited_view, grew}
 use Rattle.hnodes.proofs.Makes.{made_stands, made_view}
 
 either-assoc : {A : Type 0} (x y z : Option A) → either_of x (either_of y z) ≡ either_of (either_of x y) z
@@ -27,10 +31,6 @@ pub place-made : (place : Place) (v : Nodes ℕ) (w : What ℕ) → IsPlace plac
 place-made (LastIn p) v w h = omega arith
 place-made (Before s) v w h = (omega (arith, h.0), subst (λ (o : Option ℕ). IsSome o) (sym (parent-made s v.made v.trees w (λ e. let k = h.0 in omega arith))) h.1)
 
-pub place-under : (place : Place) (v : Nodes ℕ) → IsPlace place v → place_node place < v.made
-place-under (LastIn p) v h = h
-place-under (Before s) v h = h.0
-
 -- no node that was there is in the new one
 pub made-outside : (t : Inside) (v : Nodes ℕ) (w : What ℕ) → Opened t v → (k : ℕ) → k < v.made → IsOutside k v.made (make w v).trees
 made-outside t v w o k h =
@@ -51,20 +51,36 @@ module _ (t : Inside) (v : Nodes ℕ) (s : Store) (d : NodeData) (x : Node) (w :
   row = ap (row_of s) is ∙ ap row_alone held.1
 
   grown : AreTree s t.nodes.items t.limit
-  grown = stayed t v s t.nodes.items o (grew t v s o more)
+  grown = edited o (grew t v s o more)
 
   pub added : v.made < v.limit → AreTree s (t.nodes.items ++ x ∷ []) t.limit
   added h = made_stands s t.nodes.items x w t.limit row grown (subst (λ (m : Node). IsKept s m.content) (sym is) held.0) (omega (arith, h, o.made, o.limit))
 
-  pub added_view : nodes_in s (t.nodes.items ++ x ∷ []) t.limit ≡ make w v
-  added_view = made_view s t.nodes.items x w t.limit row grown ∙ ap (make w) (stayed_view t v s t.nodes.items o (grew t v s o more))
+  added_view : nodes_in s (t.nodes.items ++ x ∷ []) t.limit ≡ make w v
+  added_view = made_view s t.nodes.items x w t.limit row grown ∙ ap (make w) (edited_view o (grew t v s o more))
 
-  -- what is so of the value is so of the vector
-  so : (P : ℕ → Nodes ℕ → Type 0) (n : ℕ) → n ≡ length t.nodes.items → P v.made (make w v) → P n (nodes_in s (t.nodes.items ++ x ∷ []) t.limit)
-  so P n same h = subst (λ (u : Nodes ℕ). P n u) (sym added_view) (subst (λ (m : ℕ). P m (make w v)) (sym (same ∙ o.made)) h)
+  pub makes : (at n : ℕ) → v.made < v.limit → n ≡ length t.nodes.items → Makes w at v (nodes_in s (t.nodes.items ++ x ∷ []) t.limit) (Ok n)
+  makes at n h same = subst (λ (u : Nodes ℕ). Makes w at v u (Ok n)) (sym added_view) (subst (λ (m : ℕ). Makes w at v (make w v) (Ok m)) (sym (same ∙ o.made)) (record {
+    ok = refl;
+    number = (refl, begun_made t v o);
+    outside = made-outside t v w o;
+    apart = made-apart t v w o;
+    places = λ p. place-made p v w;
+    full = ((λ e. cc), (λ m. absurd (omega arith)));
+    refused = tt;
+    err = tt;
+  }))
 
-  pub added_outside : (n : ℕ) → n ≡ length t.nodes.items → (k : ℕ) → k < n → IsOutside k n (nodes_in s (t.nodes.items ++ x ∷ []) t.limit).trees
-  added_outside n same = so (λ m u. (k : ℕ) → k < m → IsOutside k m u.trees) n same (made-outside t v w o)
-
-  pub added_apart : (n : ℕ) → n ≡ length t.nodes.items → (k : ℕ) → k < n → IsOutside n k (nodes_in s (t.nodes.items ++ x ∷ []) t.limit).trees
-  added_apart n same = so (λ m u. (k : ℕ) → k < m → IsOutside m k u.trees) n same (made-apart t v w o)
+-- where there is no memory, nothing is seen
+pub makes_nothing : (t : Inside) (v : Nodes ℕ) (s : Store) (w : What ℕ) (at : ℕ) (r : Result ℕ Refusal) → Opened t v → IsGrown t.store s → v.made < v.limit → IsErrAnd r (λ e. e ≡ Memory) → Makes w at v (nodes_in s t.nodes.items t.limit) r
+makes_nothing t v s w at (Ok n) o more h is = absurd is
+makes_nothing t v s w at (Err e) o more h is = record {
+  ok = tt;
+  number = tt;
+  outside = tt;
+  apart = tt;
+  places = tt;
+  full = ((λ e. cc), (λ m. absurd (omega arith)));
+  refused = inr is;
+  err = edited_view o (grew t v s o more);
+}

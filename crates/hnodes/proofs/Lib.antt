@@ -25,7 +25,6 @@ pub mod Fresh
 pub mod FirstMoves
 pub mod Spellings
 pub mod Inside
-pub mod Climbs
 pub mod Counts
 pub mod Deep
 pub mod DeepEdits

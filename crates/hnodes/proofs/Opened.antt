@@ -1,5 +1,5 @@
 -- What the vector says of the value of a tree, and what is left to show after an edit.
-use Rattle.hnodes.proofs.Names.{◌≡◌, ℕ, zero, suc, true, ltb, cond, is_none, ◌++◌, ◌<◌, ◌≤◌, List, [], ◌∷◌, Option, Some, None, length, refl, sym, ◌∙◌, ap, subst, arith, Forest, What, document, tree, none, roots, change_what, Nodes, AreNodes, Row, Look, Loose, RowsStandIn, standing, loose, is_loose, parent_in, previous_in, next_in, with_what, at_row, look_in, row_of, content_is, get_or, set, eqb, Bool, option_map, nodes_in, inside_nodes, AreKept, AreTree, Holds, IsAmong, IsGrown, IsKept, IsTree, Node, NodeData, Store, Inside}
+use Rattle.hnodes.proofs.Names.{◌≡◌, ℕ, zero, suc, true, ltb, cond, is_none, ◌++◌, ◌<◌, ◌≤◌, List, [], ◌∷◌, Option, Some, None, length, refl, sym, ◌∙◌, ap, subst, arith, Forest, What, document, tree, none, roots, change_what, Nodes, AreNodes, Row, Look, Loose, RowsStandIn, standing, loose, is_loose, parent_in, previous_in, next_in, with_what, at_row, look_in, row_of, content_is, get_or, set, eqb, option_map, nodes_in, inside_nodes, AreKept, AreTree, Holds, IsAmong, IsGrown, IsKept, IsTree, Node, NodeData, Store, Inside}
 use Rattle.std.specs.List.{HoldsAt}
 use Rattle.std.specs.Prelude.{Result, Ok, Err, OnOk, OnErr}
 use Rattle.std.proofs.lemmas.List.{length-set}
@@ -83,91 +83,67 @@ are_nodes t v o =
       fits = omega (arith, o.made, o.limit, o.fits);
     }
 
--- The nodes and the store as a call leaves them: all is kept, and what is seen is a change of what was seen.
-pub record Edited (t : Inside) (s : Store) (new : List Node) (g : Look ℕ → Look ℕ) : Type 0 where
+-- The nodes and the store as a call leaves them: all is kept, and a forest is in as many nodes.
+pub record Left (t : Inside) (s : Store) (new : List Node) (f : Forest ℕ) : Type 0 where
   pub kept : AreKept s new
   pub same : length new ≡ length t.nodes.items
-  pub rows : (n : ℕ) → look_in s new n ≡ g (look_in t.store t.nodes.items) n
+  pub stands : RowsStandIn (length t.nodes.items) (look_in s new) f
+  pub begun : standing (look_in s new 0) ≡ Some (document, None)
 
-module _ (t : Inside) (v : Nodes ℕ) (s : Store) (new : List Node) where
-  -- another forest is in as many nodes
-  pub edited : (f : Forest ℕ) → Opened t v → AreKept s new → length new ≡ length t.nodes.items → RowsStandIn (length t.nodes.items) (look_in s new) f
-      → standing (look_in s new 0) ≡ standing (look_in t.store t.nodes.items 0) → AreTree s new t.limit
-  edited f o kept same is d = record { kept = kept; forest = (f, rw same is); begun = d ∙ o.begun; fits = rw same o.fits }
+module _ {t : Inside} {v : Nodes ℕ} {s : Store} {new : List Node} {f : Forest ℕ} (o : Opened t v) (l : Left t s new f) where
+  pub edited : AreTree s new t.limit
+  edited = record { kept = l.kept; forest = (f, rw l.same l.stands); begun = l.begun; fits = rw l.same o.fits }
 
-  pub edited_view : (f : Forest ℕ) → Opened t v → length new ≡ length t.nodes.items → RowsStandIn (length t.nodes.items) (look_in s new) f → nodes_in s new t.limit ≡ record v { trees = f }
-  edited_view f o same is = rw (same, whole-stands (length t.nodes.items) (look_in s new) f is, o.made, o.limit) refl
-
-  -- a call of which nothing is seen
-  stays : Opened t v → Edited t s new (λ look. look) → RowsStandIn (length t.nodes.items) (look_in s new) v.trees
-  stays o is = StandsIn-same (length t.nodes.items) (look_in t.store t.nodes.items) (look_in s new) v.trees o.stands is.rows
-
-  pub stayed : Opened t v → Edited t s new (λ look. look) → AreTree s new t.limit
-  stayed o is = edited v.trees o is.kept is.same (stays o is) (ap standing (is.rows 0))
-
-  pub stayed_view : Opened t v → Edited t s new (λ look. look) → nodes_in s new t.limit ≡ v
-  stayed_view o is = edited_view v.trees o is.same (stays o is)
-
-  -- a call that changes what node n is
-  becomes : (n : ℕ) (g : What ℕ → What ℕ) → Opened t v → Edited t s new (at_row n (with_what g)) → RowsStandIn (length t.nodes.items) (look_in s new) (change_what n g v.trees)
-  becomes n g o is = StandsIn-what n g (length t.nodes.items) (look_in t.store t.nodes.items) (look_in s new) v.trees o.stands is.rows
-
-  pub became : (n : ℕ) (g : What ℕ → What ℕ) → Opened t v → g document ≡ document → Edited t s new (at_row n (with_what g)) → AreTree s new t.limit
-  became n g o same is = record {
-    kept = is.kept;
-    forest = (change_what n g v.trees, rw is.same (becomes n g o is));
-    begun = document-what n g (look_in t.store t.nodes.items) (look_in s new) same is.rows 0 o.begun;
-    fits = rw is.same o.fits;
-  }
-
-  pub became_view : (n : ℕ) (g : What ℕ → What ℕ) → Opened t v → Edited t s new (at_row n (with_what g)) → nodes_in s new t.limit ≡ record v { trees = change_what n g v.trees }
-  became_view n g o is = edited_view (change_what n g v.trees) o is.same (becomes n g o is)
+  pub edited_view : nodes_in s new t.limit ≡ record v { trees = f }
+  edited_view = rw (l.same, whole-stands (length t.nodes.items) (look_in s new) f l.stands, o.made, o.limit) refl
 
 -- more is in the store
-pub grew : (t : Inside) (v : Nodes ℕ) (s : Store) → Opened t v → IsGrown t.store s → Edited t s t.nodes.items (λ look. look)
-grew t v s o g = record { kept = kept-grown t.store s t.nodes.items g o.kept; same = refl; rows = look_in-grown t.store s t.nodes.items g o.kept }
+pub grew : (t : Inside) (v : Nodes ℕ) (s : Store) → Opened t v → IsGrown t.store s → Left t s t.nodes.items v.trees
+grew t v s o g = record {
+  kept = kept-grown t.store s t.nodes.items g o.kept;
+  same = refl;
+  stands = StandsIn-same (length t.nodes.items) (look_in t.store t.nodes.items) (look_in s t.nodes.items) v.trees o.stands rows;
+  begun = ap standing (rows 0) ∙ o.begun;
+}
+  where
+    rows : (n : ℕ) → look_in s t.nodes.items n ≡ look_in t.store t.nodes.items n
+    rows = look_in-grown t.store s t.nodes.items g o.kept
+
+what-id : {N : Type 0} (n : ℕ) (f : Forest N) → change_what n (λ w. w) f ≡ f
+what-id n none = refl
+what-id n (tree b w kids rest) = grind (arith, what-id n kids, what-id n rest)
 
 -- a write into what a node is, that shows or does not
 module _ (t : Inside) (v : Nodes ℕ) (s : Store) (n j : ℕ) (x : Node) (c : NodeData) (o : Opened t v) (more : IsGrown t.store s) (made : n < v.made) (same : j ≡ n) (is : x ≡ get_or t.nodes.items j x) where
   there_is : n < length t.nodes.items
   there_is = omega (arith, o.made)
 
-  read : x ≡ get_or t.nodes.items n x
-  read = is ∙ ap (λ m. get_or t.nodes.items m x) same
-
   pub kept_there : IsKept t.store x.content
   kept_there = kept-at t.store t.nodes.items n j x same there_is is o.kept
 
-  pub written : (g : What ℕ → What ℕ) → Holds s c (g (content_is t.store x.content)) → Edited t s (set t.nodes.items j (record x { content = c })) (at_row n (with_what g))
-  written g h =
-      let e = grew t v s o more in
-      record {
-        kept = kept-set s t.nodes.items j (record x { content = c }) e.kept h.0;
-        same = length-set t.nodes.items j (record x { content = c });
-        rows = λ k. rw same (
-            look_in-set s t.nodes.items n x (record x { content = c }) (with_what g) there_is read (ap (λ w. record (row_of s x) { what = w }) (h.1 ∙ ap g (sym (grown-holds t.store s x.content more kept_there).1))) k
-            ∙ ap (λ r. cond (eqb k n) (option_map (with_what g) r) r) (e.rows k)
-            );
-      }
+  abbrev new : List Node
+  new = set t.nodes.items j (record x { content = c })
 
-  pub unwritten : Holds s c (content_is t.store x.content) → Edited t s (set t.nodes.items j (record x { content = c })) (λ look. look)
-  unwritten h =
-      let w = written (λ (m : What ℕ). m) h in
-      record { kept = w.kept; same = w.same; rows = λ k. w.rows k ∙ go (eqb k n) (look_in t.store t.nodes.items k) }
+  pub written : (g : What ℕ → What ℕ) → g document ≡ document → Holds s c (g (content_is t.store x.content)) → Left t s new (change_what n g v.trees)
+  written g stays h = record {
+    kept = kept-set s t.nodes.items j (record x { content = c }) (kept-grown t.store s t.nodes.items more o.kept) h.0;
+    same = length-set t.nodes.items j (record x { content = c });
+    stands = StandsIn-what n g (length t.nodes.items) (look_in t.store t.nodes.items) (look_in s new) v.trees o.stands rows;
+    begun = document-what n g (look_in t.store t.nodes.items) (look_in s new) stays rows 0 o.begun;
+  }
     where
-      go : (b : Bool) (r : Option (Row ℕ)) → cond b (option_map (λ m. m) r) r ≡ r
-      go b r = grind arith
+      rows : (k : ℕ) → look_in s new k ≡ at_row n (with_what g) (look_in t.store t.nodes.items) k
+      rows k = rw same (
+          look_in-set s t.nodes.items n x (record x { content = c }) (with_what g) there_is (is ∙ ap (λ m. get_or t.nodes.items m x) same)
+          (ap (λ w. record (row_of s x) { what = w }) (h.1 ∙ ap g (sym (grown-holds t.store s x.content more kept_there).1))) k
+          ∙ ap (λ r. cond (eqb k n) (option_map (with_what g) r) r) (look_in-grown t.store s t.nodes.items more o.kept k)
+          )
+
+  pub unwritten : Holds s c (content_is t.store x.content) → Left t s new v.trees
+  unwritten h = subst (Left t s new) (what-id n v.trees) (written (λ w. w) refl h)
 
   -- a call that writes, or shows nothing where it fails
-  module _ {A E : Type 0} (g : What ℕ → What ℕ) where
-    pub tried : (r : Result A E) → g document ≡ document → OnOk r (Holds s c (g (content_is t.store x.content))) → OnErr r (Holds s c (content_is t.store x.content)) → AreTree s (set t.nodes.items j (record x { content = c })) t.limit
-    tried (Ok a) stays ok err = became t v s _ n g o stays (written g ok)
-    tried (Err e) stays ok err = stayed t v s _ o (unwritten err)
-
-    pub tried_ok : (r : Result A E) → OnOk r (Holds s c (g (content_is t.store x.content))) → OnOk r (nodes_in s (set t.nodes.items j (record x { content = c })) t.limit ≡ record v { trees = change_what n g v.trees })
-    tried_ok (Ok a) ok = became_view t v s _ n g o (written g ok)
-    tried_ok (Err e) ok = tt
-
-    pub tried_err : (r : Result A E) → OnErr r (Holds s c (content_is t.store x.content)) → OnErr r (nodes_in s (set t.nodes.items j (record x { content = c })) t.limit ≡ v)
-    tried_err (Ok a) err = tt
-    tried_err (Err e) err = stayed_view t v s _ o (unwritten err)
+  pub tried : {A E : Type 0} (g : What ℕ → What ℕ) (r : Result A E) → g document ≡ document → OnOk r (Holds s c (g (content_is t.store x.content))) → OnErr r (Holds s c (content_is t.store x.content))
+      → AreTree s new t.limit × OnOk r (nodes_in s new t.limit ≡ record v { trees = change_what n g v.trees }) × OnErr r (nodes_in s new t.limit ≡ v)
+  tried g (Ok a) stays ok err = let l = written g stays ok in (edited o l, edited_view o l, tt)
+  tried g (Err e) stays ok err = let l = unwritten err in (edited o l, tt, edited_view o l)

@@ -1,5 +1,5 @@
 -- Where a node is once another one has become something else.
-use Rattle.hnodes.proofs.Names.{arith, ◌≡◌, ℕ, eqb, if◌then◌else◌, List, ◌++◌, Option, Some, None, refl, sym, ◌∙◌, ap, option_and_then, eq-eqb, option_map, What, document, doctype, element, comment, text, Forest, none, tree, change_what, Spot, spot_below, spot_of, either_of, what_of, last_child_of, previous_of, with_text, before_place, if_text, text_before, Place, LastIn, Before}
+use Rattle.hnodes.proofs.Names.{arith, ◌≡◌, ℕ, eqb, if◌then◌else◌, List, ◌++◌, Option, Some, None, refl, sym, ◌∙◌, ap, option_and_then, eq-eqb, option_map, What, text, Forest, none, tree, change_what, Spot, spot_below, spot_of, either_of, what_of, last_child_of, previous_of, with_text, before_place, if_text, text_before, Place, LastIn, Before}
 use Rattle.hnodes.proofs.Whats.{last_or-what}
 
 module _ {N : Type 0} (n : ℕ) (g : What N → What N) where
@@ -53,10 +53,7 @@ module _ {N : Type 0} where
       with m b (Some (text t)) w i =
           let same : m ≡ n = cc in
           record { before = b ∙ ap (λ (k : ℕ). Some k) same; bytes = t; what = ap (λ (k : ℕ). what_of k f) (sym same) ∙ w }
-      with m b (Some document) w i = cc
-      with m b (Some (doctype a c d)) w i = cc
-      with m b (Some (element a c)) w i = cc
-      with m b (Some (comment a)) w i = cc
+      with m b _ w i = cc
 
       go : (o : Option ℕ) → before_place place f ≡ o → option_and_then (λ m. if_text m (what_of m f)) o ≡ Some n → IsTextBefore place f n
       go None b i = cc

@@ -1,5 +1,5 @@
 -- A forest under other names.
-use Rattle.hnodes.proofs.Names.{arith, ◌≡◌, ℕ, ◌+◌, [], ◌∷◌, map, Option, Some, None, refl, sym, ◌∙◌, ap, option_and_then, map-append, option_map, Attribute, What, document, doctype, element, comment, text, Forest, none, tree, join, tree_at, cut, children_of, change_children, change_what, put_before, Spot, first_or, last_or, spot_below, spot_of, either_of, parent_of, last_child_of, previous_of, what_of, kind_in, name_in, attributes_in, text_in, doctype_in, Nodes, graft, graft_last, graft_before, move_all, with_attribute, with_char, text_before, char_into, Place, LastIn, Before}
+use Rattle.hnodes.proofs.Names.{arith, ◌≡◌, ℕ, ◌+◌, [], ◌∷◌, map, Option, Some, None, refl, sym, ◌∙◌, ap, option_and_then, map-append, option_map, Attribute, What, document, doctype, element, text, Forest, none, tree, join, tree_at, cut, children_of, change_children, change_what, put_before, Spot, first_or, last_or, spot_below, spot_of, either_of, last_child_of, previous_of, what_of, kind_in, name_in, attributes_in, text_in, doctype_in, Nodes, graft, graft_last, graft_before, move_all, with_attribute, with_char, text_before, char_into, Place, LastIn, Before}
 use Rattle.std.proofs.lemmas.Iterator.Adapters.{option_map_id}
 use Rattle.hnodes.specs.Mapped.{mapped_attribute, mapped_what, mapped, mapped_nodes, mapped_spot, EditsKnowNoNames, QuestionsKnowNoNames}
 
@@ -65,28 +65,17 @@ module _ {N M : Type 0} (g : N → M) where
       → option_and_then q (what_of n (mapped g f)) ≡ option_map h (option_and_then q' (what_of n f))
   asked-what q q' h same n f = grind (arith, mapped-what_of)
 
-  mapped-kind : (w : What N) → kind_in (mapped_what g w) ≡ kind_in w
-  mapped-kind document = refl
-  mapped-kind _ = refl
+  -- the parts of what a node is
+  record SamePartsOf (w : What N) : Type 0 where
+    kind : kind_in (mapped_what g w) ≡ kind_in w
+    name : name_in (mapped_what g w) ≡ option_map g (name_in w)
+    attrs : attributes_in (mapped_what g w) ≡ option_map (map (mapped_attribute g)) (attributes_in w)
+    text : text_in (mapped_what g w) ≡ option_map (λ a. a) (text_in w)
+    doctype : doctype_in (mapped_what g w) ≡ option_map (λ a. a) (doctype_in w)
 
-  mapped-name : (w : What N) → name_in (mapped_what g w) ≡ option_map g (name_in w)
-  mapped-name document = refl
-  mapped-name _ = refl
-
-  mapped-attributes : (w : What N) → attributes_in (mapped_what g w) ≡ option_map (map (mapped_attribute g)) (attributes_in w)
-  mapped-attributes document = refl
-  mapped-attributes _ = refl
-
-  mapped-text : (w : What N) → text_in (mapped_what g w) ≡ option_map (λ a. a) (text_in w)
-  mapped-text document = refl
-  mapped-text _ = refl
-
-  mapped-doctype : (w : What N) → doctype_in (mapped_what g w) ≡ option_map (λ a. a) (doctype_in w)
-  mapped-doctype document = refl
-  mapped-doctype _ = refl
-
-  mapped-parent_of : (n : ℕ) (f : Forest N) → parent_of n (mapped g f) ≡ parent_of n f
-  mapped-parent_of n f = asked (λ s. s.parent) (λ s. s.parent) (λ s. refl) n f
+  parts : (w : What N) → SamePartsOf w
+  parts document = record { kind = refl; name = refl; attrs = refl; text = refl; doctype = refl }
+  parts _ = record { kind = refl; name = refl; attrs = refl; text = refl; doctype = refl }
 
   mapped-last_child_of : (n : ℕ) (f : Forest N) → last_child_of n (mapped g f) ≡ last_child_of n f
   mapped-last_child_of n f = asked (λ s. last_or None s.children) (λ s. last_or None s.children) (λ s. mapped-last_or None s.children) n f
@@ -96,21 +85,21 @@ module _ {N M : Type 0} (g : N → M) where
 
   pub questions : QuestionsKnowNoNames g
   questions = record {
-    parent = mapped-parent_of;
-    first_child = λ n f. asked (λ s. first_or s.children None) (λ s. first_or s.children None) (λ s. mapped-first_or s.children None) n f;
+    parent = asked (λ s. s.parent) (λ s. s.parent) (λ s. refl);
+    first_child = asked (λ s. first_or s.children None) (λ s. first_or s.children None) (λ s. mapped-first_or s.children None);
     last_child = mapped-last_child_of;
-    next = λ n f. asked (λ s. first_or s.after None) (λ s. first_or s.after None) (λ s. mapped-first_or s.after None) n f;
+    next = asked (λ s. first_or s.after None) (λ s. first_or s.after None) (λ s. mapped-first_or s.after None);
     previous = mapped-previous_of;
     kind = λ n f. (ap (option_map kind_in) (mapped-what_of n f) ∙ kinds (what_of n f));
-    name = λ n f. asked-what name_in name_in g mapped-name n f;
-    attrs = λ n f. asked-what attributes_in attributes_in (map (mapped_attribute g)) mapped-attributes n f;
-    text = λ n f. (asked-what text_in text_in (λ a. a) mapped-text n f ∙ option_map_id (option_and_then text_in (what_of n f)));
-    doctype = λ n f. (asked-what doctype_in doctype_in (λ a. a) mapped-doctype n f ∙ option_map_id (option_and_then doctype_in (what_of n f)));
+    name = asked-what name_in name_in g (λ w. (parts w).name);
+    attrs = asked-what attributes_in attributes_in (map (mapped_attribute g)) (λ w. (parts w).attrs);
+    text = λ n f. (asked-what text_in text_in (λ a. a) (λ w. (parts w).text) n f ∙ option_map_id (option_and_then text_in (what_of n f)));
+    doctype = λ n f. (asked-what doctype_in doctype_in (λ a. a) (λ w. (parts w).doctype) n f ∙ option_map_id (option_and_then doctype_in (what_of n f)));
   }
     where
       kinds : (o : Option (What N)) → option_map kind_in (option_map (mapped_what g) o) ≡ option_map kind_in o
       kinds None = refl
-      kinds (Some w) = ap (λ k. Some k) (mapped-kind w)
+      kinds (Some w) = ap (λ k. Some k) (parts w).kind
 
   -- edits
   mapped-graft_last : (n p : ℕ) (f : Forest N) → mapped g (graft_last n p f) ≡ graft_last n p (mapped g f)
@@ -131,18 +120,12 @@ module _ {N M : Type 0} (g : N → M) where
       ∙ ap (change_children p (λ kids. join kids (children_of m (mapped g f)))) (mapped-change_children m (λ _. none) (λ _. none) (λ k. refl) f)
 
   mapped-with_attribute : (a : Attribute N) (w : What N) → mapped_what g (with_attribute a w) ≡ with_attribute (mapped_attribute g a) (mapped_what g w)
-  mapped-with_attribute a document = refl
-  mapped-with_attribute a (doctype n p s) = refl
   mapped-with_attribute a (element x attrs) = ap (element (g x)) (map-append (mapped_attribute g) attrs (a ∷ []))
-  mapped-with_attribute a (comment t) = refl
-  mapped-with_attribute a (text t) = refl
+  mapped-with_attribute a _ = refl
 
   mapped-with_char : (c : ℕ) (w : What N) → mapped_what g (with_char c w) ≡ with_char c (mapped_what g w)
   mapped-with_char c document = refl
-  mapped-with_char c (doctype n p s) = refl
-  mapped-with_char c (element x attrs) = refl
-  mapped-with_char c (comment t) = refl
-  mapped-with_char c (text t) = refl
+  mapped-with_char c _ = refl
 
   pub mapped-text_before : (place : Place) (f : Forest N) → text_before place (mapped g f) ≡ text_before place f
   mapped-text_before place f = grind (arith, mapped-last_child_of, mapped-previous_of, mapped-what_of)

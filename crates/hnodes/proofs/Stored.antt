@@ -88,17 +88,12 @@ same-grown s = record { texts = ([], sym (append-nil s.texts)); attrs = ([], sym
 
 -- what a node holds stays, whatever is added to the store
 pub grown-holds : (old new : Store) (c : NodeData) → IsGrown old new → IsKept old c → Holds new c (content_is old c)
-grown-holds old new content.Document g k = (tt, refl)
-grown-holds old new (content.Doctype d) g k = (tt, refl)
 grown-holds old new (content.Element name r) g k =
     let run : run_in r new.attrs.items ≡ run_in r old.attrs.items = ap (run_in r) g.attrs.1 ∙ run-more r old.attrs.items g.attrs.0 k.inside in
     let there = subst (AreTexts old.texts) (sym run) k.values in (
       record { inside = subst (IsRun r) (sym g.attrs.1) (is_run-more r old.attrs.items g.attrs.0 k.inside); values = subst (λ t. AreTexts t (run_in r new.attrs.items)) (sym g.texts.1) (texts-more old.texts g.texts.0 (run_in r new.attrs.items) there) },
       ap (element name) (ap (λ t. map (stored_attribute t) (run_in r new.attrs.items)) g.texts.1 ∙ stored-more old.texts g.texts.0 (run_in r new.attrs.items) there ∙ ap (map (stored_attribute old.texts)) run),
     )
-grown-holds old new (content.Wide name attrs) g k = (tt, refl)
-grown-holds old new (content.Shared name list) g k = (tt, refl)
 grown-holds old new (content.Comment r) g k = (subst (IsText r) (sym g.texts.1) (is_text-more r old.texts g.texts.0 k), ap comment (ap (run_in r) g.texts.1 ∙ run-more r old.texts g.texts.0 k.0))
-grown-holds old new (content.LongComment t) g k = (tt, refl)
 grown-holds old new (content.Text r) g k = (subst (IsText r) (sym g.texts.1) (is_text-more r old.texts g.texts.0 k), ap text (ap (run_in r) g.texts.1 ∙ run-more r old.texts g.texts.0 k.0))
-grown-holds old new (content.Long t) g k = (tt, refl)
+grown-holds old new _ g k = (tt, refl)

@@ -1,12 +1,15 @@
 -- A walk in tree order.
 use Rattle.hnodes.proofs.Families.{first-is, first_child-is, spot-children, children-among}
-use Rattle.hnodes.proofs.Names.{◌≡◌, ℕ, ◌<◌, Bool, true, false, eqb, cond, not, List, [], ◌∷◌, ◌++◌, length, Some, None, refl, sym, ◌∙◌, ap, subst, arith, drop, option_and_then, ◌⊎◌, inl, inr, eq-eqb, append_assoc, append-nil, IfSome, IsTrue, option_map, What, Forest, none, tree, times, join, children_of, Spot, spot_of, first_or, first_child_of, next_of, parent_of, what_of, AreCounted, path_above, ancestors_of, way_up, order, after_each, is_among}
+use Rattle.hnodes.proofs.Names.{◌≡◌, ℕ, ◌<◌, Bool, true, false, eqb, cond, not, List, [], ◌∷◌, ◌++◌, length, Some, None, refl, sym, ◌∙◌, ap, subst, arith, drop, option_and_then, ◌⊎◌, inl, inr, eq-eqb, append_assoc, append-nil, IfSome, IsTrue, option_map, What, Forest, none, tree, times, join, children_of, Spot, spot_of, first_or, first_child_of, next_of, parent_of, what_of, AreCounted, path_above, ancestors_of, way_up, order, after_each, is_among, ltb, tree_at, IsOutside, eqb-true, lt-ltb, cases_lt}
+use Rattle.std.proofs.Common.{◌↔◌}
+use Rattle.std.proofs.lemmas.Bool.{cases_Bool, false≢true, le-ltb}
 use Rattle.hnodes.specs.Passed.{trees_after, inside_from}
 use Rattle.hnodes.proofs.Forests.{some_inj, times-join, join-assoc}
+use Rattle.hnodes.proofs.Inside.{top-inside}
 use Rattle.hnodes.proofs.Levels.{level, Here, Below}
 use Rattle.hnodes.proofs.Counted.{at-most, is-there, one-there, was-made}
 use Rattle.hnodes.proofs.ChildSpots.{spot_among, child-spot, root-spot}
-use Rattle.hnodes.proofs.WaysUp.{way-step}
+use Rattle.hnodes.proofs.WaysUp.{way-step, above-inside}
 
 pub differ : (a b : ℕ) → true ≡ not (eqb a b) → eqb a b ≡ false
 differ a b e = grind arith
@@ -118,9 +121,25 @@ module _ {N : Type 0} where
     pub shorter : (n q : ℕ) → n < made → parent_of n f ≡ Some q → length (ancestors_of q f) < length (ancestors_of n f)
     shorter n q h is = rw (parents n h, is) (omega arith)
 
+    -- a node and its parent are inside the same ones, but for the node itself
+    pub on-way : (n : ℕ) → n < made → eqb n top ≡ false → is_among top (way_up (Some n) f) ≡ is_among top (way_up (parent_of n f) f)
+    on-way n h other = rw other (ap (is_among top) (parents n h))
+
     pub still-inside : (n : ℕ) → n < made → eqb n top ≡ false → IsTrue (is_among top (way_up (Some n) f)) → IsTrue (is_among top (way_up (parent_of n f) f))
-    still-inside n h other inside =
-        subst (λ (xs : List ℕ). IsTrue (is_among top xs)) (parents n h) (subst (λ (u : Bool). IsTrue (cond u true (is_among top (ancestors_of n f)))) other inside)
+    still-inside n h other inside = sym (on-way n h other) ∙ inside
+
+    -- a node is outside of another that is not on its way up
+    pub way-outside : (n : ℕ) → n < made → top < made → (u : Bool) → is_among top (way_up (Some n) f) ≡ u → (u ≡ false) ↔ IsOutside n top f
+    way-outside n h there u is = elim (cases_Bool (eqb n top)) [
+      | inl e ↦
+          let yes : u ≡ true = sym is ∙ rw e refl in
+          ((λ off. absurd (false≢true (sym off ∙ yes))), (λ out. absurd (top-inside top f (is-there made f counted top there) (subst (λ (m : ℕ). times m (tree_at top f) ≡ 0) (eqb-true n top e) out))))
+      | inr e ↦
+          let test : u ≡ ltb 0 (times n (tree_at top f)) = sym is ∙ rw e (above-inside n top [] f (is-there made f counted n h) (at-most made f counted top) e) in (
+            (λ off. elim (cases_lt 0 (times n (tree_at top f))) [ inl some ↦ absurd (false≢true (sym off ∙ test ∙ lt-ltb 0 (times n (tree_at top f)) some)) | inr few ↦ omega arith ]),
+            (λ out. test ∙ le-ltb 0 (times n (tree_at top f)) (omega (arith, out))),
+          )
+    ]
 
     pub own-inside : (n : ℕ) → IsTrue (is_among top (ancestors_of n f)) → IsTrue (is_among top (way_up (Some n) f))
     own-inside n h = grind arith

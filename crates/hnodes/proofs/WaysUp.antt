@@ -1,5 +1,10 @@
 -- From a node to its parent, and so on.
-use Rattle.hnodes.proofs.Names.{◌≡◌, ℕ, ◌<◌, List, [], ◌∷◌, Some, None, refl, sym, ◌∙◌, ap, arith, option_and_then, unwrap_or, ◌⊎◌, inl, inr, eqb-true, eq-eqb, What, Forest, none, tree, times, join, children_of, Spot, parent_of, AreCounted, path_above, ancestors_of, way_up}
+use Rattle.hnodes.proofs.Names.{◌≡◌, ℕ, ◌<◌, List, [], ◌∷◌, Some, None, refl, sym, ◌∙◌, ap, arith, option_and_then, unwrap_or, ◌⊎◌, inl, inr, eqb-true, eq-eqb, What, Forest, none, tree, times, join, children_of, Spot, parent_of, AreCounted, path_above, ancestors_of, way_up, is_among, tree_at, eqb, ltb, ◌≤◌, false}
+use Rattle.std.proofs.Common.{◌||◌}
+use Rattle.std.proofs.lemmas.Bool.Decides.{nat_tests}
+use Rattle.hnodes.proofs.Forests.{times-join, tree_at-absent}
+use Rattle.hnodes.proofs.Inside.{tree_at-among}
+use Rattle.hnodes.proofs.Spots.{either-none}
 use Rattle.hnodes.proofs.Levels.{level, Here, Below}
 use Rattle.hnodes.proofs.Counted.{at-most, is-there}
 use Rattle.hnodes.proofs.Families.{of_root, of_kids, of_rest, child, left-apart}
@@ -13,6 +18,13 @@ module _ {N : Type 0} where
   above-row : (n : ℕ) (w : What N) (up : List ℕ) (L k R : Forest N) → times n L ≡ 0 → path_above n up (join L (tree n w k R)) ≡ Some up
   above-row n w up none k R h = rw (eq-eqb n n refl) refl
   above-row n w up (tree b v kids rest) k R h = grind (arith, above-row n w up rest k R, above-absent)
+
+  -- a node that a node is inside of is above it
+  pub above-inside : (n top : ℕ) (up : List ℕ) (f : Forest N) → times n f ≡ 1 → times top f ≤ 1 → eqb n top ≡ false
+      → is_among top (unwrap_or (path_above n up f) []) ≡ (is_among top up || ltb 0 (times n (tree_at top f)))
+  above-inside n top up none one few other = absurd (omega arith)
+  above-inside n top up (tree b w kids rest) one few other =
+      grind (arith, nat_tests, above-inside n top (b ∷ up) kids, above-inside n top up rest, above-absent, times-join, tree_at-among, tree_at-absent, either-none)
 
   module _ (n q : ℕ) (w : What N) where
     -- what a child is inside of: its parent, and what that is inside of

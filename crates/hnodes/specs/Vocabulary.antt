@@ -16,6 +16,7 @@ pub use Rattle.hnodes.specs.Mapped.{mapped_attribute}
 pub use Rattle.hnodes.specs.Spots.{attributes_of, doctype_of, first_child_of, node_kind, last_child_of, node_name, next_of, parent_of, previous_of, text_of_node}
 pub use Rattle.hnodes.specs.Spots.{value_of, what_of}
 pub use Rattle.hnodes.specs.Store.{attributes_in_run, run_in, stored_attribute, Adds, AreStored, AreTexts, IsGrown, IsLonger, IsText}
+pub use Rattle.hnodes.specs.View.{HasNode}
 pub use Rattle.hnodes.specs.declared.node.Place.{Place}
 pub use Rattle.hnodes.specs.declared.store.Store.{Store}
 pub use Rattle.names.specs.declared.refusal.Refusal.TheVariants.{Memory, TooManyNodes}

@@ -209,6 +209,7 @@ impl Indexed {
         ensures ok { OnOk result (self.new ≡ self.old ++ attribute_of attr ∷ []) }
         ensures err { OnErr result (self.new ≡ self.old) }
     {
+        self.index()?;
         let differ = self.differ_from(attr.name());
         self.attrs.push(attr)?;
         self.differ = differ;

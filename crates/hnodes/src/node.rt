@@ -1,7 +1,7 @@
 //! Nodes and their numbers.
 
-ghost use Rattle.std.specs.Prelude.{◌≡◌, Some, None, OnOk, OnErr, IfOk, IfSome, ◌++◌, ◌∷◌, [], ◌<◌, map, string_bytes};
-ghost use Rattle.hnodes.specs.Vocabulary.{attribute_of, attributes_in_run, comment, content_is, element, given_is, text, with_attribute, with_text};
+ghost use Rattle.std.specs.Prelude.{◌≡◌, Some, None, OnOk, OnErr, IfOk, IfSome, ◌++◌, ◌∷◌, [], ◌<◌, map};
+ghost use Rattle.hnodes.specs.Vocabulary.{attribute_of, attributes_in_run, content_is, element, given_is, text, with_attribute, with_text};
 ghost use Rattle.hnodes.specs.Vocabulary.{AreStored, Holds, IsGrown, IsKept, Store};
 
 use crate::attributes::{FEW_ATTRIBUTES, Indexed, taken};
@@ -192,8 +192,14 @@ pub(crate) fn content(
         Given::Element(name, attrs) => element(name, attrs, store, alloc),
         Given::Sharing(name, attrs) => Ok(sharing(name, attrs)),
         Given::Copied(name, attrs) => copied(name, attrs, store),
-        Given::Comment(text) => comment(text, store, alloc),
-        Given::Text(run) => text(run, store, alloc),
+        Given::Comment(text) => match store.texts.add(&text)? {
+            Some(run) => Ok(NodeData::Comment(run)),
+            None => Ok(NodeData::LongComment(Box::new(alloc, text)?)),
+        },
+        Given::Text(text) => match store.texts.add(text)? {
+            Some(run) => Ok(NodeData::Text(run)),
+            None => long_text("", text, alloc),
+        },
     }
 }
 
@@ -259,29 +265,6 @@ fn sharing(name: NameId, attrs: Attributes) -> NodeData
     match attrs.into_list() {
         Some(list) => NodeData::Shared(name, list),
         None => NodeData::Element(name, Run::empty()),
-    }
-}
-
-/// A comment.
-fn comment(text: String, store: &mut Store, alloc: Global) -> Result<NodeData, AllocError>
-    ensures content { IfOk result (λ c. Holds store.new c (comment (string_bytes text))) }
-    ensures grown { IsGrown store.old store.new }
-{
-    match store.add_text(&text)? {
-        Some(run) => Ok(NodeData::Comment(run)),
-        None => Ok(NodeData::LongComment(Box::new(alloc, text)?)),
-    }
-}
-
-/// A text.
-#[inline(always)]
-fn text(run: &str, store: &mut Store, alloc: Global) -> Result<NodeData, AllocError>
-    ensures content { IfOk result (λ c. Holds store.new c (text run.now)) }
-    ensures grown { IsGrown store.old store.new }
-{
-    match store.add_text(run)? {
-        Some(run) => Ok(NodeData::Text(run)),
-        None => long_text("", run, alloc),
     }
 }
 

@@ -80,26 +80,13 @@ impl Listed {
         ensures { IfOk result (λ listed. listed ≡ map attribute_of attrs.old.items) }
     {
         let found = look_at(attrs, alloc)?;
-        if attrs.len() > 1 || found.is_some() {
-            return Listed::others(attrs, found, alloc);
+        if found.is_none() && attrs.len() == 1 {
+            if let Some(attr) = attrs.pop() {
+                return Ok(Listed {
+                    held: Held::One(attr),
+                });
+            }
         }
-        match attrs.pop() {
-            Some(attr) => Ok(Listed {
-                held: Held::One(attr),
-            }),
-            None => Listed::others(attrs, None, alloc),
-        }
-    }
-
-    /// More than one, or one with a long value.
-    fn others(
-        attrs: &mut Vec<Attr>,
-        found: Option<Box<Found>>,
-        alloc: Global,
-    ) -> Result<Self, AllocError>
-        requires { IfSome found (λ found. IsFound found.value (map attribute_of attrs.old.items)) }
-        ensures { IfOk result (λ listed. listed ≡ map attribute_of attrs.old.items) }
-    {
         let attrs = taken(attrs, alloc)?;
         Ok(Listed {
             held: Held::Others(attrs, found),

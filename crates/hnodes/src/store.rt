@@ -1,6 +1,6 @@
 //! The store of a tree: the bytes of its texts, and the attributes of its elements.
 
-ghost use Rattle.std.specs.Prelude.{◌≡◌, ◌≤◌, ◌+◌, ◌++◌, [], length, map, take, IfOk, IfSome, IsTrue, OnErr, OnOk};
+ghost use Rattle.std.specs.Prelude.{◌≡◌, ◌≤◌, ◌+◌, ◌++◌, length, map, take, IfOk, IfSome, IsTrue, OnErr, OnOk};
 ghost use Rattle.hnodes.specs.Vocabulary.{attribute_of, attributes_in_run, run_in, Adds, AreStored, IsGrown, IsLonger, IsText};
 
 use crate::attrs_view::Attrs;
@@ -35,14 +35,6 @@ impl Run {
             start: start as u32,
             len: len as u32,
         })
-    }
-
-    /// Where it begins.
-    #[inline(always)]
-    fn start(self) -> usize
-        ensures { result ≡ self.start }
-    {
-        self.start as usize
     }
 
     /// Where it ends.
@@ -84,16 +76,6 @@ impl Model for Texts {
 }
 
 impl Texts {
-    /// No texts.
-    fn new(alloc: Global) -> Self
-        ensures { result ≡ [] }
-    {
-        Texts {
-            filled: Vec::new(alloc),
-            count: 0,
-        }
-    }
-
     /// How many bytes there are.
     #[inline(always)]
     fn len(&self) -> usize
@@ -108,12 +90,12 @@ impl Texts {
         requires { IsText run self.now }
         ensures { result.now ≡ run_in run self.now }
     {
-        unsafe { str::from_utf8_unchecked(&self.filled[run.start()..run.end()]) }
+        unsafe { str::from_utf8_unchecked(&self.filled[run.start as usize..run.end()]) }
     }
 
     /// Adds a text, and gives its run, unless that has no number.
     #[inline(always)]
-    fn add(&mut self, text: &str) -> Result<Option<Run>, AllocError>
+    pub(crate) fn add(&mut self, text: &str) -> Result<Option<Run>, AllocError>
         ensures run { IfOk result (λ run. IfSome run (λ r. IsText r self.new × (run_in r self.new ≡ text.now))) }
         ensures grown { IsLonger self.old self.new }
     {
@@ -172,7 +154,10 @@ impl Store {
     /// An empty store.
     pub(crate) fn new(alloc: Global) -> Self {
         Store {
-            texts: Texts::new(alloc),
+            texts: Texts {
+                filled: Vec::new(alloc),
+                count: 0,
+            },
             attrs: Vec::new(alloc),
         }
     }
@@ -183,16 +168,7 @@ impl Store {
         requires { AreStored run self.now }
         ensures { result ≡ attributes_in_run run self.now }
     {
-        Attrs::stored(&self.attrs[run.start()..run.end()], &self.texts)
-    }
-
-    /// Adds a text, and gives its run, unless that has no number.
-    #[inline(always)]
-    pub(crate) fn add_text(&mut self, text: &str) -> Result<Option<Run>, AllocError>
-        ensures run { IfOk result (λ run. IfSome run (λ r. IsText r self.new.texts × (run_in r self.new.texts ≡ text.now))) }
-        ensures grown { IsGrown self.old self.new }
-    {
-        self.texts.add(text)
+        Attrs::stored(&self.attrs[run.start as usize..run.end()], &self.texts)
     }
 
     /// Adds attributes at the end, and says whether each of their values has a run.
@@ -235,7 +211,7 @@ impl Store {
         if run.end() != self.texts.len() {
             return Ok(None);
         }
-        let longer = Run::of(run.start(), run.len as usize + more.len());
+        let longer = Run::of(run.start as usize, run.len as usize + more.len());
         if longer.is_some() {
             self.texts.push(more)?;
         }

@@ -1,13 +1,13 @@
 //! A tree as one value.
 
 ghost use Rattle.std.specs.Prelude.{◌≡◌, ◌<◌, ◌≤◌, ◌↔◌, ◌⊎◌, ℕ, Some, None, OnOk, OnErr, IfOk, IfErr, IfSome, IsSome, IsFalse, IsTrue, map, string_bytes};
-ghost use Rattle.std.specs.Prelude.{length, leb, ltb, nat_eq, true, if◌then◌else◌};
+ghost use Rattle.std.specs.Prelude.{length, ltb, nat_eq, true, if◌then◌else◌};
 ghost use Rattle.std.specs.Option.{option_map};
 ghost use Rattle.std.specs.Str.{chars};
 ghost use Rattle.hnodes.specs.Vocabulary.{add_attribute, add_char, add_chars, add_missing, change_what, graft, graft_before, graft_last, make, move_all};
 ghost use Rattle.hnodes.specs.Vocabulary.{attribute_of, comment, content_is, doctype, doctype_of, doctype_texts, document, element, first_child_of, given_is};
 ghost use Rattle.hnodes.specs.Vocabulary.{node_kind, last_child_of, node_name, next_of, none, own_text as own_text_of, parent_of, place_node};
-ghost use Rattle.hnodes.specs.Vocabulary.{previous_of, text, text_before, text_of_node, tree, what_of, with_text, AreNodes, IsKept, IsOutside, IsPlace, Makes};
+ghost use Rattle.hnodes.specs.Vocabulary.{previous_of, text, text_before, text_of_node, tree, what_of, with_text, AreNodes, HasNode, IsKept, IsOutside, IsPlace, Makes};
 ghost use Rattle.hnodes.specs.Vocabulary.{Memory, Place, TooManyNodes};
 
 use crate::links::{detach, hook};
@@ -85,7 +85,8 @@ impl Tree {
         ensures within { result < self.now.made }
         ensures nodes { AreNodes self.now }
     {
-        prove!(!self.nodes.is_empty());
+        prove!(self.are_nodes());
+        prove!(self.made() > 0);
         NodeId { number: 0 }
     }
 
@@ -195,37 +196,14 @@ impl Tree {
         self.make(Given::Doctype(texts), at)
     }
 
-    /// Refuses where no further node may be made.
-    fn room(&self, at: u64) -> Result<(), Refusal>
-        ensures { result ≡ (if leb self.now.limit self.now.made then Err (TooManyNodes at) else Ok tt) }
-    {
-        if self.nodes.len() >= self.limit as usize {
-            return Err(Refusal::TooManyNodes { at });
-        }
-        Ok(())
-    }
-
     /// Makes a node, loose.
     #[inline(always)]
     fn make(&mut self, given: Given, at: u64) -> Result<NodeId, Refusal>
         ensures { Makes (given_is given.entry) at self.old self.new result }
     {
-        self.room(at)?;
-        self.add(given)
-    }
-
-    /// Makes a node, loose.
-    #[inline(always)]
-    fn add(&mut self, given: Given) -> Result<NodeId, Refusal>
-        requires { self.old.made < self.old.limit }
-        ensures ok { OnOk result (self.new ≡ make (given_is given.entry) self.old) }
-        ensures number { IfOk result (λ n. (n ≡ self.old.made) × (0 < n)) }
-        ensures outside { IfOk result (λ n. (k : ℕ) → k < n → IsOutside k n self.new.trees) }
-        ensures apart { IfOk result (λ n. (k : ℕ) → k < n → IsOutside n k self.new.trees) }
-        ensures places { IfOk result (λ n. (p : Place) → IsPlace p self.old → IsPlace p self.new) }
-        ensures memory { IfErr result (λ e. e ≡ Memory) }
-        ensures err { OnErr result (self.new ≡ self.old) }
-    {
+        if self.nodes.len() >= self.limit as usize {
+            return Err(Refusal::TooManyNodes { at });
+        }
         let number = self.nodes.len() as u32;
         let content = node::content(given, &mut self.store, self.alloc)?;
         self.nodes.push(Node::loose(content))?;
@@ -295,8 +273,8 @@ impl Tree {
         ensures moved { self.new ≡ record self.old { trees = move_all from to self.old.trees } }
         ensures outside { IsOutside from to self.old.trees → IsOutside from to self.new.trees }
     {
-        // The document is there, so the nodes are counted before the first of them moves.
-        prove!(!self.nodes.is_empty());
+        // So the nodes are counted before the first of them moves.
+        prove!(self.are_nodes());
         while let Some(child) = self.first_child(from) {
             self.append(child, to);
         }
@@ -310,18 +288,8 @@ impl Tree {
         ensures refused { IfErr result (λ e. (e ≡ TooManyNodes at) ⊎ (e ≡ Memory)) }
         ensures err { OnErr result (self.new ≡ self.old) }
     {
-        // A copy for the first of two calls.
-        let here = place;
         let mut buffer = [0; 4];
-        let text = c.encode_utf8(&mut buffer);
-        match self.text_before(here) {
-            Some(before) => Ok(self.join(before, text)?),
-            None => {
-                let node = self.make(Given::Text(text), at)?;
-                self.insert(node, place);
-                Ok(())
-            }
-        }
+        self.put_text(c.encode_utf8(&mut buffer), place, at)
     }
 
     /// Inserts a text at a place, as `put_char` inserts its characters one by one: at the end of the text right before the place,
@@ -389,23 +357,13 @@ impl Tree {
         ensures memory { IfErr result (λ e. e ≡ Memory) }
         ensures err { OnErr result (self.new ≡ self.old) }
     {
-        self.widen(node)?;
-        self.push_attr(node, attr)?;
-        Ok(())
-    }
-
-    /// Adds an attribute after an element's others.
-    fn push_attr(&mut self, node: NodeId, attr: Attr) -> Result<(), AllocError>
-        requires { node < self.old.made }
-        ensures ok { OnOk result (self.new ≡ record self.old { trees = add_attribute node (attribute_of attr) self.old.trees }) }
-        ensures err { OnErr result (self.new ≡ self.old) }
-    {
         add_attr(
             &mut self.nodes[node.number as usize].content,
             attr,
             &self.store,
             self.alloc,
-        )
+        )?;
+        Ok(())
     }
 
     /// Adds an attribute after an element's others, unless it has one of this name; does nothing to another node. Takes amortized
@@ -420,8 +378,7 @@ impl Tree {
         if self.has_attr(node, attr.name()) {
             return Ok(());
         }
-        self.push_attr(node, attr)?;
-        Ok(())
+        self.add_attr(node, attr)
     }
 
     /// Makes an index of the attributes of an element with more than a few.
@@ -438,9 +395,10 @@ impl Tree {
         requires top_in { top < self.now.made }
         ensures { IsFalse result ↔ IsOutside node top self.now.trees }
     {
+        prove!(self.are_nodes());
         let mut above = node;
         while above != top {
-            match self.nodes[above.number as usize].parent.get() {
+            match self.parent(above) {
                 Some(parent) => above = parent,
                 None => return false,
             }
@@ -455,7 +413,7 @@ impl Tree {
         ensures within { IfSome result (λ n. n < self.now.made) }
         ensures nodes { AreNodes self.now }
     {
-        self.nodes[node.number as usize].parent.get()
+        self.row(node).0.parent.get()
     }
 
     /// The first child of a node.
@@ -465,7 +423,7 @@ impl Tree {
         ensures within { IfSome result (λ n. n < self.now.made) }
         ensures nodes { AreNodes self.now }
     {
-        self.nodes[node.number as usize].first.get()
+        self.row(node).0.first.get()
     }
 
     /// The last child of a node.
@@ -475,7 +433,7 @@ impl Tree {
         ensures within { IfSome result (λ n. n < self.now.made) }
         ensures nodes { AreNodes self.now }
     {
-        self.nodes[node.number as usize].last.get()
+        self.row(node).0.last.get()
     }
 
     /// The sibling after a node, which is `next_sibling` elsewhere.
@@ -485,7 +443,7 @@ impl Tree {
         ensures within { IfSome result (λ n. n < self.now.made) }
         ensures nodes { AreNodes self.now }
     {
-        self.nodes[node.number as usize].next.get()
+        self.row(node).0.next.get()
     }
 
     /// The sibling before a node, which is `previous_sibling` elsewhere.
@@ -495,7 +453,16 @@ impl Tree {
         ensures within { IfSome result (λ n. n < self.now.made) }
         ensures nodes { AreNodes self.now }
     {
-        self.nodes[node.number as usize].previous.get()
+        self.row(node).0.previous.get()
+    }
+
+    /// A node with its links, and the store of what it holds.
+    #[inline(always)]
+    fn row(&self, node: NodeId) -> (&Node, &Store)
+        requires { node < self.now.made }
+        ensures { HasNode node result.1.now result.0.now self.now }
+    {
+        (&self.nodes[node.number as usize], &self.store)
     }
 
     /// What a node holds, and the store that has its text or its attributes.
@@ -505,7 +472,8 @@ impl Tree {
         ensures kept { IsKept result.1.now result.0.now }
         ensures what { Some (content_is result.1.now result.0.now) ≡ what_of node self.now.trees }
     {
-        (&self.nodes[node.number as usize].content, &self.store)
+        let (row, store) = self.row(node);
+        (&row.content, store)
     }
 
     /// The kind of a node.

@@ -1,23 +1,24 @@
-use Rattle.hnodes.proofs.Names.{◌≡◌, sym, ◌∙◌, ap, refl, times, tree_at}
-use Rattle.hnodes.proofs.Climbs.{unlike, alike, stepped, ended, reached}
+use Rattle.hnodes.proofs.Names.{◌≡◌, Some, None, refl, sym, ◌∙◌, ap, arith, eqb, true, is_among, way_up, parent_of}
+use Rattle.hnodes.proofs.TreeOrder.{differ, on-way, shorter, way-outside}
 use Rattle.hnodes.proofs.tree.Tree.is_inside.Goals as goal
 
-pub loop-self-smaller : goal.loop-self-smaller
-loop-self-smaller c = (stepped c.self.inside c.args.self.now c.loop-self.above c.above.inside.number c.args.top c.index.result.now c.self.view_is c.self.invariant c.loop-self.invariant.within (unlike c.loop-self.above c.args.top c.loop-self-test.ensures) c.above.view_is c.index.ensures c.in-Some.parent (sym c.get.ensures ∙ c.in-Some.is)).higher
+pub loop-top-smaller : goal.loop-top-smaller
+loop-top-smaller c = shorter c.args.self.now.made c.args.self.now.trees c.are_nodes.ensures.nodes.counted c.args.top c.loop-top.above c.in-Some.parent c.loop-top.invariant.within (sym c.parent.ensures.parent ∙ c.in-Some.is)
 
-pub loop-self-preserved : goal.loop-self-preserved
-loop-self-preserved c =
-    let s = stepped c.self.inside c.args.self.now c.loop-self.above c.above.inside.number c.args.top c.index.result.now c.self.view_is c.self.invariant c.loop-self.invariant.within (unlike c.loop-self.above c.args.top c.loop-self-test.ensures) c.above.view_is c.index.ensures c.in-Some.parent (sym c.get.ensures ∙ c.in-Some.is) in
-    record { within = s.within; same = s.same ∙ c.loop-self.invariant.same }
+pub loop-top-preserved : goal.loop-top-preserved
+loop-top-preserved c =
+    let step = on-way c.args.self.now.made c.args.self.now.trees c.are_nodes.ensures.nodes.counted c.args.top c.loop-top.above c.loop-top.invariant.within (differ c.loop-top.above c.args.top c.loop-top-test.ensures) in
+    let up : parent_of c.loop-top.above c.args.self.now.trees ≡ Some c.in-Some.parent = sym c.parent.ensures.parent ∙ c.in-Some.is in
+    record { within = c.in-Some.ensures.within; same = sym (step ∙ ap (λ o. is_among c.args.top (way_up o c.args.self.now.trees)) up) ∙ c.loop-top.invariant.same }
 
 pub returns-in-None : goal.returns-in-None
 returns-in-None c =
-    let out = ended c.self.inside c.args.self.now c.loop-self.above c.above.inside.number c.args.top c.index.result.now c.self.view_is c.self.invariant c.loop-self.invariant.within (unlike c.loop-self.above c.args.top c.loop-self-test.ensures) c.above.view_is c.index.ensures (sym c.get.ensures ∙ c.in-None.is) in
-    ((λ _. sym c.loop-self.invariant.same ∙ out), (λ _. refl))
+    let step = on-way c.args.self.now.made c.args.self.now.trees c.are_nodes.ensures.nodes.counted c.args.top c.loop-top.above c.loop-top.invariant.within (differ c.loop-top.above c.args.top c.loop-top-test.ensures) in
+    let up : parent_of c.loop-top.above c.args.self.now.trees ≡ None = sym c.parent.ensures.parent ∙ c.in-None.is in
+    way-outside c.args.self.now.made c.args.self.now.trees c.are_nodes.ensures.nodes.counted c.args.top c.args.node c.requires.node_in c.requires.top_in _
+    (sym c.loop-top.invariant.same ∙ step ∙ ap (λ o. is_among c.args.top (way_up o c.args.self.now.trees)) up)
 
 pub returns : goal.returns
 returns c =
-    let same = alike c.loop-self.above c.args.top c.loop-self-test.ensures in
-    let no : times c.args.node (tree_at c.args.top c.args.self.now.trees) ≡ 0 → ⊥ =
-    (λ out. reached c.self.inside c.args.self.now c.args.top c.self.view_is c.self.invariant c.requires.top_in (ap (λ m. times m (tree_at c.args.top c.args.self.now.trees)) (sym same) ∙ c.loop-self.invariant.same ∙ out)) in
-    ((λ e. cc), (λ out. absurd (no out)))
+    let here : eqb c.loop-top.above c.args.top ≡ true = grind arith in
+    way-outside c.args.self.now.made c.args.self.now.trees c.are_nodes.ensures.nodes.counted c.args.top c.args.node c.requires.node_in c.requires.top_in _ (sym c.loop-top.invariant.same ∙ rw here refl)

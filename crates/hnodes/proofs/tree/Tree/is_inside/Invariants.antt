@@ -1,11 +1,11 @@
-use Rattle.hnodes.proofs.Names.{◌≡◌, ◌<◌, ◌-◌, times, size, tree_at}
+use Rattle.hnodes.proofs.Names.{◌≡◌, ◌<◌, Some, length, ancestors_of, is_among, way_up}
 use Rattle.hnodes.proofs.tree.Tree.is_inside.Given as goal
 
-abbrev pub invariant-loop-self : goal.invariant-loop-self
-invariant-loop-self l = record {
+abbrev pub invariant-loop-top : goal.invariant-loop-top
+invariant-loop-top l = record {
   within : l.above < l.self.made;
-  same : times l.above (tree_at l.top l.self.trees) ≡ times l.fn.node (tree_at l.top l.self.trees);
+  same : is_among l.top (way_up (Some l.above) l.self.trees) ≡ is_among l.top (way_up (Some l.fn.node) l.self.trees);
 }
 
-abbrev pub decreases-loop-self : goal.decreases-loop-self
-decreases-loop-self l = size l.self.trees - size (tree_at l.above l.self.trees)
+abbrev pub decreases-loop-top : goal.decreases-loop-top
+decreases-loop-top l = length (ancestors_of l.above l.self.trees)

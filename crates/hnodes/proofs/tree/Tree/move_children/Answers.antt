@@ -1,17 +1,7 @@
-use Rattle.hnodes.proofs.Names.{refl, sym, ◌∙◌}
+use Rattle.hnodes.proofs.Names.{sym, ◌∙◌}
 use Rattle.hnodes.proofs.FirstMoves.{moves, none-left}
 use Rattle.hnodes.proofs.Outside.{moved-outside}
-use Rattle.hnodes.proofs.Opened.{opened, are_nodes}
 use Rattle.hnodes.proofs.tree.Tree.move_children.Goals as goal
-
-pub loop-child-init : goal.loop-child-init
-loop-child-init c = record {
-  limit = refl;
-  made = refl;
-  outside = c.requires.not_inside;
-  nodes = are_nodes c.self.inside c.args.self.now (opened c.self.inside c.args.self.now c.self.view_is c.self.invariant);
-  same = refl;
-}
 
 pub append-requires-clause-not_document : goal.append-requires-clause-not_document
 append-requires-clause-not_document c = (moves c.loop-child.self c.args.from c.args.to c.in-Some.child c.in-Some.ensures.nodes (rw c.loop-child.invariant.made c.requires.from_in) (rw c.loop-child.invariant.made c.requires.to_in) c.loop-child.invariant.outside (sym c.in-Some.ensures.child)).not_document
@@ -23,13 +13,9 @@ pub loop-child-smaller : goal.loop-child-smaller
 loop-child-smaller c = rw c.append.ensures (moves c.loop-child.self c.args.from c.args.to c.in-Some.child c.in-Some.ensures.nodes (rw c.loop-child.invariant.made c.requires.from_in) (rw c.loop-child.invariant.made c.requires.to_in) c.loop-child.invariant.outside (sym c.in-Some.ensures.child)).fewer
 
 pub loop-child-preserved : goal.loop-child-preserved
-loop-child-preserved c = rw c.append.ensures (record {
-  limit = c.loop-child.invariant.limit;
-  made = c.loop-child.invariant.made;
-  nodes = c.loop-child.invariant.nodes;
-  outside = (moves c.loop-child.self c.args.from c.args.to c.in-Some.child c.in-Some.ensures.nodes (rw c.loop-child.invariant.made c.requires.from_in) (rw c.loop-child.invariant.made c.requires.to_in) c.loop-child.invariant.outside (sym c.in-Some.ensures.child)).outside;
-  same = (moves c.loop-child.self c.args.from c.args.to c.in-Some.child c.in-Some.ensures.nodes (rw c.loop-child.invariant.made c.requires.from_in) (rw c.loop-child.invariant.made c.requires.to_in) c.loop-child.invariant.outside (sym c.in-Some.ensures.child)).same ∙ c.loop-child.invariant.same;
-})
+loop-child-preserved c =
+    let m = moves c.loop-child.self c.args.from c.args.to c.in-Some.child c.in-Some.ensures.nodes (rw c.loop-child.invariant.made c.requires.from_in) (rw c.loop-child.invariant.made c.requires.to_in) c.loop-child.invariant.outside (sym c.in-Some.ensures.child) in
+    rw c.append.ensures (record { limit = c.loop-child.invariant.limit; made = c.loop-child.invariant.made; nodes = c.loop-child.invariant.nodes; outside = m.outside; same = m.same ∙ c.loop-child.invariant.same })
 
 pub returns-clause-moved : goal.returns-clause-moved
 returns-clause-moved c =

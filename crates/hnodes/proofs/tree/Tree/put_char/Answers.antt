@@ -1,10 +1,12 @@
-use Rattle.hnodes.proofs.Names.{text, place_node}
-use Rattle.hnodes.proofs.Fresh.{place-made, place-under}
+use Rattle.hnodes.proofs.Names.{◌≡◌, ◌∷◌, [], List, ℕ, ap, sym, ◌∙◌, subst, append-nil, encode_utf8}
+use Rattle.std.specs.Prelude.{OnOk}
+use Rattle.std.specs.Str.{chars}
+use Rattle.std.proofs.lemmas.Str.{chars-nil, chars_past_char}
+use Rattle.hnodes.specs.Edits.{add_chars}
 use Rattle.hnodes.proofs.tree.Tree.put_char.Goals as goal
 
-pub insert-requires-clause-place : goal.insert-requires-clause-place
-insert-requires-clause-place c = rw c.in_ok-node-in-None.ensures.ok (place-made c.args.place c.args.self.now (text c.encode_utf8-text.result.now) c.requires)
-
-pub insert-requires-clause-not_inside : goal.insert-requires-clause-not_inside
-insert-requires-clause-not_inside c =
-    c.in_ok-node-in-None.ensures.outside (place_node c.args.place) (rw c.in_ok-node-in-None.ensures.number.0 (place-under c.args.place c.args.self.now c.requires))
+pub returns-clause-ok : goal.returns-clause-ok
+returns-clause-ok c =
+    let bytes : List ℕ = c.encode_utf8.result.now in
+    let alone : chars bytes ≡ c.args.c ∷ [] = chars_past_char bytes [] c.args.c c.encode_utf8.utf8 (c.encode_utf8.ensures.value ∙ sym (append-nil (encode_utf8 c.args.c))) ∙ ap (λ (cs : List ℕ). c.args.c ∷ cs) chars-nil in
+    subst (λ (cs : List ℕ). OnOk c.put_text.result (c.put_text.new.self ≡ add_chars cs c.args.place c.args.self.now)) alone c.put_text.ensures.ok

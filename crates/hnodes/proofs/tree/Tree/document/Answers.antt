@@ -1,5 +1,0 @@
-use Rattle.hnodes.proofs.Opened.{opened, are_nodes}
-use Rattle.hnodes.proofs.tree.Tree.document.Goals as goal
-
-pub returns-clause-nodes : goal.returns-clause-nodes
-returns-clause-nodes c = are_nodes c.self.inside c.args.self.now (opened c.self.inside c.args.self.now c.self.view_is c.self.invariant)
