@@ -1,8 +1,6 @@
 -- Where a child of a node is.
 use Rattle.hnodes.proofs.Names.{◌≡◌, ℕ, ◌≤◌, Option, Some, None, refl, sym, ◌∙◌, ap, arith, eqb-true, eq-eqb, What, Forest, none, tree, times, join, children_of, Spot, spot_below, spot_of, last_or}
-use Rattle.hnodes.proofs.Forests.{times-join, join-none}
-use Rattle.hnodes.proofs.Spots.{either-none, spot_below-absent, spot_of-absent}
-use Rattle.hnodes.proofs.Fresh.{spot_of-join}
+use Rattle.hnodes.proofs.Forests.{times-join, join-none, either-none, spot_below-absent, spot_of-absent, spot_of-join}
 use Rattle.hnodes.proofs.Families.{of_root, of_kids, of_rest, child, left-apart}
 
 module _ {N : Type 0} (n q : ℕ) (w : What N) (L k R : Forest N) where

@@ -1,7 +1,6 @@
 -- A node and its children.
 use Rattle.hnodes.proofs.Names.{◌≡◌, ℕ, ◌+◌, ◌<◌, ◌≤◌, Bool, true, false, eqb, cond, Option, Some, None, refl, sym, ◌∙◌, ap, subst, arith, eqb-true, eq-eqb, option_map, What, Forest, none, tree, times, join, tree_at, children_of, spot_below, spot_of, first_or, last_or, first_child_of, last_child_of}
-use Rattle.hnodes.proofs.Forests.{some_inj, times-join, join-none, tree_at-absent, children_of-absent}
-use Rattle.hnodes.proofs.Spots.{spot_below-absent, spot_of-absent, either-none}
+use Rattle.hnodes.proofs.Forests.{some_inj, times-join, join-none, tree_at-absent, children_of-absent, spot_below-absent, spot_of-absent, either-none}
 
 module _ {N : Type 0} where
   -- where a number is that is once in a tree and those after it

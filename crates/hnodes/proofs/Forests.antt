@@ -1,5 +1,6 @@
 -- Laws of forests.
-use Rattle.hnodes.proofs.Names.{◌≡◌, ℕ, ◌+◌, eqb, if◌then◌else◌, List, [], ◌∷◌, ◌++◌, Option, Some, refl, ap, arith, Forest, none, tree, roots, size, times, join, tree_at, cut, children_of, change_children, first_or, last_or}
+use Rattle.hnodes.proofs.Names.{◌≡◌, ℕ, ◌+◌, eqb, if◌then◌else◌, List, [], ◌∷◌, ◌++◌, Option, Some, refl, ap, arith, Forest, none, tree, roots, size, times, join, tree_at, cut, children_of, change_children, first_or, last_or, None, option_map, spot_below, spot_of, either_of, Look, Linked, Loose, row_at, ◌∙◌}
+use Rattle.std.proofs.lemmas.Bool.Decides.{nat_tests}
 
 pub some_inj : {A : Type 0} {a b : A} → Some a ≡ Some b → a ≡ b
 some_inj e = cc
@@ -93,3 +94,41 @@ module _ {N : Type 0} where
   pub change-const : (q : ℕ) (g : Forest N → Forest N) (f : Forest N) → times q f ≡ 1 → change_children q g f ≡ change_children q (λ _. g (children_of q f)) f
   change-const q g none h = refl
   change-const q g (tree b w kids rest) h = grind (arith, change-const q g kids, change-const q g rest, children_of-absent, change_children-absent, join-none)
+
+-- The row of a node is that of its place.
+
+pub either-none : {A : Type 0} → (o : Option A) → either_of o None ≡ o
+either-none None = refl
+either-none (Some a) = refl
+
+module _ {N : Type 0} where
+  pub spot_below-absent : (n : ℕ) (p x : Option ℕ) (f : Forest N) → times n f ≡ 0 → spot_below n p x f ≡ None
+  spot_below-absent n p x none h = refl
+  spot_below-absent n p x (tree b w kids rest) h = grind (arith, spot_below-absent n (Some b) None kids, spot_below-absent n p (Some b) rest)
+
+  pub Linked-spot : (look : Look N) (n : ℕ) (p x : Option ℕ) (f : Forest N) → times n f ≡ 1 → Linked look p x f None → look n ≡ option_map row_at (spot_below n p x f)
+  Linked-spot look n p x none h s = absurd (omega arith)
+  Linked-spot look n p x (tree b w kids rest) h s = grind (arith, Linked-spot look n (Some b) None kids, Linked-spot look n p (Some b) rest, spot_below-absent, nat_tests)
+
+  pub spot_of-absent : (n : ℕ) (f : Forest N) → times n f ≡ 0 → spot_of n f ≡ None
+  spot_of-absent n none h = refl
+  spot_of-absent n (tree b w kids rest) h = rw (spot_below-absent n None None (tree b w kids none) (omega arith), spot_of-absent n rest (omega arith)) refl
+
+  pub Loose-spot : (look : Look N) (n : ℕ) (f : Forest N) → times n f ≡ 1 → Loose look f → look n ≡ option_map row_at (spot_of n f)
+  Loose-spot look n none h s = absurd (omega arith)
+  Loose-spot look n (tree b w kids rest) h s = grind (arith, Loose-spot look n rest, Linked-spot look n None None (tree b w kids none), spot_of-absent, spot_below-absent, either-none)
+
+-- in forests one after another
+either-assoc : {A : Type 0} (x y z : Option A) → either_of x (either_of y z) ≡ either_of (either_of x y) z
+either-assoc None y z = refl
+either-assoc (Some a) y z = refl
+
+module _ {N : Type 0} where
+  pub tree_at-join : (n : ℕ) (f g : Forest N) → times n f ≡ 0 → tree_at n (join f g) ≡ tree_at n g
+  tree_at-join n none g h = refl
+  tree_at-join n (tree b w kids rest) g h = grind (arith, tree_at-join n rest g, tree_at-absent)
+
+  pub spot_of-join : (n : ℕ) (f g : Forest N) → spot_of n (join f g) ≡ either_of (spot_of n f) (spot_of n g)
+  spot_of-join n none g = refl
+  spot_of-join n (tree b w kids rest) g =
+      ap (either_of (spot_below n None None (tree b w kids none))) (spot_of-join n rest g) ∙ either-assoc (spot_below n None None (tree b w kids none)) (spot_of n rest) (spot_of n g)

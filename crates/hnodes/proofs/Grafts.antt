@@ -2,11 +2,9 @@
 use Rattle.hnodes.proofs.Names.{◌≡◌, ◌≢◌, ℕ, ◌+◌, ◌<◌, ◌≤◌, Option, Some, None, refl, sym, ◌∙◌, ap, subst, arith, ◌⊎◌, inl, inr, eq-eqb, What, Forest, none, tree, size, times, join, tree_at, cut, change_children, children_of, IsOutside, first_or, last_or, graft_last, graft_before, Row, Look, Linked, Loose, RowsStandIn, standing, hooked, detached, last_in, parent_in, previous_in, next_in}
 use Rattle.hnodes.proofs.Forests.{some_inj, without, join-none, times-join, size-join, times-cut, size-cut, roots-cut, roots-change_children, times-changed, size-changed, change-const}
 use Rattle.hnodes.proofs.Levels.{level, Here, Below}
-use Rattle.hnodes.proofs.Loose.{Holds, Loose-holds}
-use Rattle.hnodes.proofs.Cuts.{here-row, below-row, Loose-cut}
-use Rattle.hnodes.proofs.Hooks.{Loose-hook}
+use Rattle.hnodes.proofs.Linked.{Holds, Loose-holds}
+use Rattle.hnodes.proofs.Cuts.{here-row, below-row, Loose-cut, Loose-hook, one-of, once-of, there, links-among, ends-among}
 use Rattle.hnodes.proofs.Roots.{keeps-leave, loose-moved, standing-moved}
-use Rattle.hnodes.proofs.Within.{one-of, once-of, there, links-among, ends-among}
 
 module _ {N : Type 0} where
   -- the tree of a node that is there

@@ -1,10 +1,142 @@
+-- Groups of numbers, the walk down a group, and what is kept of a list under each change.
+use Rattle.hnodes.proofs.IndexNames.{◌≡◌, ◌≢◌, ℕ, true, false, not, eqb, List, get_or, eqb-true, eqb-false, eq-eqb, ne_eqb, not_from_false, not_from_true, none, last_up, is_in_group, numbers_of, Link, group_of, ◌<◌, ◌-◌, arith, zero, suc, ◌≤◌, Bool, length, refl, sym, ◌∙◌, ap, subst, get_or-map, get_or_default, length-map, link_number, before_of, befores_of, Keep, IsIndexed, in_group_of, [], ◌∷◌, ◌++◌, map, take, set, inl, inr, cases_lt, get_or-set_same, get_or-set_other, length-set, length-take-le, length_push, take-map, take-append-le, SaysLast}
+use Rattle.std.proofs.lemmas.Nat.{and_le_r}
+use Rattle.std.proofs.lemmas.Bool.{and_parts, and_from, and_left, and_right, not-true, cases_eq}
+use Rattle.hnodes.proofs.LastUp.{up-sought, up-other, up-within, up-found, up-alike}
+use Rattle.std.proofs.lemmas.List.{get_or-take, get_or_push, take_all}
+
+abbrev pub nearest : List Link → (width group : ℕ) → ℕ → ℕ
+nearest links width group k = last_up (is_in_group width group) (numbers_of links) k
+
+-- and where the group of the number at an index is last before it
+abbrev pub own_nearest : List Link → (width : ℕ) → ℕ → ℕ
+own_nearest links width i = nearest links width (group_of (get_or (numbers_of links) i 0) width) i
+
+-- each number has one, where there are any
+pub group-less : (n width : ℕ) → 0 < width → group_of n width < width
+group-less n width wide = omega (arith, and_le_r n (width - 1))
+
+module _ (width group n : ℕ) where
+  pub in-group : n ≢ none → group_of n width ≡ group → is_in_group width group n ≡ true
+  in-group some is =
+      and_from (not (eqb n none)) (eqb (group_of n width) group) (not_from_false (eqb n none) (ne_eqb n none some)) (eq-eqb (group_of n width) group is)
+
+  pub not-in-group : group_of n width ≢ group → is_in_group width group n ≡ false
+  not-in-group other = and_right (not (eqb n none)) (eqb (group_of n width) group) (ne_eqb (group_of n width) group other)
+
+  pub none-in-group : n ≡ none → is_in_group width group n ≡ false
+  none-in-group is = and_left (not (eqb n none)) (eqb (group_of n width) group) (not_from_true (eqb n none) (eq-eqb n none is))
+
+  pub group-of : is_in_group width group n ≡ true → (n ≢ none) × (group_of n width ≡ group)
+  group-of e =
+      let parts = and_parts (not (eqb n none)) (eqb (group_of n width) group) e in
+      (eqb-false n none (not-true (eqb n none) parts.0), eqb-true (group_of n width) group parts.1)
+
+-- The walk down a group to where a number is.
+
+-- where a number is last among the first links
+abbrev pub sought_up : List Link → ℕ → ℕ → ℕ
+sought_up links number k = last_up (λ n. eqb n number) (numbers_of links) k
+
+-- who seeks fewer numbers may go on from where more are sought
+up-down : (p q : ℕ → Bool) (ns : List ℕ) → ((n : ℕ) → q n ≡ true → p n ≡ true) → (k : ℕ) → last_up q ns k ≡ last_up q ns (last_up p ns k)
+up-down p q ns fewer zero = refl
+up-down p q ns fewer (suc i) = grind (arith, up-down p q ns fewer i, fewer (get_or ns i 0))
+
+-- the sought number is of its own group
+own-group : (width number : ℕ) → number ≢ none → (n : ℕ) → eqb n number ≡ true → in_group_of width number n ≡ true
+own-group width number some n e =
+    let same = eqb-true n number e in
+    in-group width (group_of number width) n (λ is. some (sym same ∙ is)) (ap (λ m. group_of m width) same)
+
+-- so what a search for it finds is found from the nearest place of its group on
+from-group : (links : List Link) (width number k : ℕ) → number ≢ none → sought_up links number k ≡ sought_up links number (nearest links width (group_of number width) k)
+from-group links width number k some = up-down (in_group_of width number) (λ n. eqb n number) (numbers_of links) (own-group width number some) k
+
+-- at the place, if it is one, a number of the sought one's group is
+pub record Walks (links : List Link) (number place : ℕ) : Type 0 where
+  pub width : ℕ
+  pub kept : Keep width (numbers_of links) (befores_of links)
+  pub group : 0 < place → in_group_of width number (get_or (numbers_of links) (place - 1) 0) ≡ true
+
+walks-up : (links : List Link) (width number place k : ℕ) → Keep width (numbers_of links) (befores_of links) → place ≡ nearest links width (group_of number width) k → Walks links number place
+walks-up links width number place k kept is = record {
+  width = width;
+  kept = kept;
+  group =
+      subst (λ (m : ℕ). 0 < m → in_group_of width number (get_or (numbers_of links) (m - 1) 0) ≡ true) (sym is)
+      (up-found (in_group_of width number) (numbers_of links) k);
+}
+
+-- the link at a place
+pub record IsAt (links : List Link) (place : ℕ) (x : Link) : Type 0 where
+  pub some : 0 < place
+  pub within : place ≤ length links
+  pub is : x ≡ get_or links (place - 1) x
+
+module _ {links : List Link} {place : ℕ} {x : Link} (at : IsAt links place x) where
+  pub number-at : get_or (numbers_of links) (place - 1) 0 ≡ x.number
+  number-at = get_or-map link_number links (place - 1) x 0 (omega (arith, at.some, at.within)) ∙ ap link_number (sym at.is)
+
+  before-at : get_or (befores_of links) (place - 1) 0 ≡ x.before
+  before-at = get_or-map before_of links (place - 1) x 0 (omega (arith, at.some, at.within)) ∙ ap before_of (sym at.is)
+
+-- a step of the walk
+module _ {links : List Link} {number place : ℕ} {x : Link} (some : number ≢ none) (w : Walks links number place) (at : IsAt links place x) where
+  kept-at : x.before ≡ nearest links w.width (group_of number w.width) (place - 1)
+  kept-at =
+      let in_group = group-of w.width (group_of number w.width) (get_or (numbers_of links) (place - 1) 0) (w.group at.some) in
+      sym (before-at at) ∙ w.kept (place - 1) (omega (arith, at.some, at.within, length-map links link_number)) in_group.0
+      ∙ ap (λ g. last_up (is_in_group w.width g) (numbers_of links) (place - 1)) in_group.1
+
+  pub walk-le : x.before ≤ place - 1
+  walk-le = omega (arith, kept-at, up-within (in_group_of w.width number) (numbers_of links) (place - 1))
+
+  pub walk-on : Walks links number x.before
+  walk-on = walks-up links w.width number x.before (place - 1) w.kept kept-at
+
+  -- nothing is missed on the way
+  pub walk-down : sought_up links number (place - 1) ≡ sought_up links number x.before
+  walk-down = from-group links w.width number (place - 1) some ∙ ap (sought_up links number) (sym kept-at)
+
+  pub walk-here : x.number ≡ number → sought_up links number place ≡ place
+  walk-here same =
+      let next : place ≡ suc (place - 1) = omega (arith, at.some) in
+      ap (sought_up links number) next
+      ∙ up-sought (λ n. eqb n number) (numbers_of links) (place - 1) (eq-eqb (get_or (numbers_of links) (place - 1) 0) number (number-at at ∙ same)) ∙ sym next
+
+  pub walk-not : x.number ≢ number → sought_up links number place ≡ sought_up links number x.before
+  walk-not other =
+      let next : place ≡ suc (place - 1) = omega (arith, at.some) in
+      ap (sought_up links number) next
+      ∙ up-other (λ n. eqb n number) (numbers_of links) (place - 1) (ne_eqb (get_or (numbers_of links) (place - 1) 0) number (λ same. other (sym (number-at at) ∙ same)))
+      ∙ walk-down
+
+-- the walk from a place of a list on
+pub walk-from : {last : List ℕ} {links : List Link} {place : ℕ} {x : Link} → IsIndexed last links → IsAt links place x → x.number ≢ none → Walks links x.number place
+walk-from {last} {links} {place} {x} c at some = record {
+  width = length last;
+  kept = c.kept;
+  group = λ _. ap (in_group_of (length last) x.number) (number-at at) ∙ in-group (length last) (group_of x.number (length last)) x.number some refl;
+}
+
+-- the walk from the last place of a group
+module _ {last : List ℕ} {links : List Link} (c : IsIndexed last links) (number place : ℕ) (some : number ≢ none) (wide : 0 < length last) (is : place ≡ get_or last (group_of number (length last)) place) where
+  last-at : place ≡ nearest links (length last) (group_of number (length last)) (length (numbers_of links))
+  last-at =
+      let within = group-less number (length last) wide in
+      is ∙ get_or_default last (group_of number (length last)) place 0 within ∙ c.says (group_of number (length last)) within
+
+  pub last-le : place ≤ length links
+  last-le = omega (arith, last-at, up-within (in_group_of (length last) number) (numbers_of links) (length (numbers_of links)), length-map links link_number)
+
+  pub last-walks : Walks links number place
+  last-walks = walks-up links (length last) number place (length (numbers_of links)) c.kept last-at
+
+  pub last-found : sought_up links number (length (numbers_of links)) ≡ sought_up links number place
+  last-found = from-group links (length last) number (length (numbers_of links)) some ∙ ap (sought_up links number) (sym last-at)
+
 -- What is kept of a list of numbers, under each change.
-use Rattle.hnodes.proofs.IndexNames.{◌≡◌, ◌≢◌, ℕ, suc, ◌<◌, ◌≤◌, false, List, [], ◌∷◌, ◌++◌, length, map, take, get_or, set, inl, inr, refl, sym, ◌∙◌, ap, subst, arith, cases_lt, get_or-set_same, get_or-set_other, get_or-map, length-map, length-set, length-take-le, length_push, take-map, take-append-le, none, last_up, link_number, before_of, numbers_of, befores_of, is_in_group, Keep, SaysLast, IsIndexed, Link, group_of, in_group_of}
-use Rattle.std.proofs.lemmas.Bool.{cases_eq}
-use Rattle.std.proofs.lemmas.List.{get_or-take, get_or_push}
-use Rattle.std.proofs.lemmas.List.{take_all}
-use Rattle.hnodes.proofs.Groups.{group-less, nearest, own_nearest, in-group, not-in-group, none-in-group}
-use Rattle.hnodes.proofs.LastUp.{up-sought, up-other, up-within, up-alike}
 
 -- what a table says, and what is kept, of the first links
 pub record IndexedTo (last : List ℕ) (links : List Link) (k : ℕ) : Type 0 where

@@ -1,11 +1,20 @@
--- Where a number is last in a list of numbers, and whether an attribute of a name is there.
+-- The names of attributes: where one is, and whether they differ.
 use Rattle.std.proofs.lemmas.Bool.Decides.{nat_tests}
-use Rattle.hnodes.proofs.Names.{◌≡◌, ℕ, zero, suc, ◌-◌, ◌<◌, ◌≤◌, Bool, true, cond, ltb, nat_eq, List, [], ◌∷◌, length, length-drop, map, take, drop, refl, sym, ◌∙◌, ap, arith, lt-ltb, map-append, take_all, list_any-append, list_any, Attr, Attribute, attr_numbers, attribute_of}
-use Rattle.std.proofs.Common.{◌==◌, ◌||◌}
+use Rattle.hnodes.proofs.Names.{◌≡◌, ℕ, zero, suc, ◌-◌, ◌<◌, ◌≤◌, Bool, true, cond, ltb, nat_eq, List, [], ◌∷◌, length, length-drop, map, take, drop, refl, sym, ◌∙◌, ap, arith, lt-ltb, map-append, take_all, list_any-append, list_any, Attr, Attribute, attr_numbers, attribute_of, ◌+◌, false, not, eqb, ◌++◌, get_or, subst, Vec, Global, IsTrue, names_differ, names_of}
+use Rattle.std.proofs.Common.{◌==◌, ◌||◌, ◌↔◌}
 use Rattle.std.proofs.Math.Dec.{eqb-suc-suc}
-use Rattle.std.proofs.lemmas.Bool.{le-ltb}
-use Rattle.std.proofs.lemmas.List.{length-map, length-take, take-append-drop}
+use Rattle.std.proofs.lemmas.Bool.{le-ltb, and_parts, not-true, false_from_ne_true, false≢true, ltb-true}
+use Rattle.std.proofs.lemmas.List.{length-map, length-take, take-append-drop, take-append-le}
 use Rattle.hnodes.specs.IndexedList.{last_up}
+use Rattle.std.proofs.lemmas.List.Sorted.{IsPermutation-sym}
+use Rattle.std.proofs.lemmas.Map.Keys.{IsDistinct-IsPermutation, IsDistinct-cons, IsDistinct-head, IsDistinct-tail, IsDistinct-from_sorted, IsStrictlyIncreasing-from_distinct, sorted_from_strictly_increasing}
+use Rattle.std.specs.Cmp.{unsigned_tied}
+use Rattle.std.specs.List.{AllByRecursion, IsAllAdjacentAnswer, IsDistinct}
+use Rattle.std.specs.List.Sorted.{IsNonDecreasing, IsPermutation, IsStrictlyIncreasing}
+use Rattle.std.specs.Ordering.{nat_cmp}
+use Rattle.std.specs.Prelude.{◌&&◌, ◌||◌, ltb}
+use Rattle.hnodes.specs.Numbered.{AreNumbered, inside_attributes}
+use Rattle.hnodes.specs.declared.attributes.Indexed.TheInside.{Inside}
 
 module _ (s : ℕ → Bool) where
   -- where it is with a number more at the front, which is sought or not
@@ -66,3 +75,66 @@ found_rest names attrs lent number name last len u first is at none same long te
     test ∙ (λ i. list_any (λ a. nat_eq a.0 name) (map attribute_of (take (length (same i) - long i) (drop (long i) (same i)))))
     ∙ ap (λ v. v || list_any (λ a. nat_eq a.0 name) (map attribute_of (take (length attrs - length names) (drop (length names) attrs)))) (sym (le-ltb 0 last none) ∙ ap (ltb 0) at)
     ∙ found-is names attrs number name first is
+
+-- Attributes whose names differ, and their names in ascending order.
+
+flips : (x y : ℕ) → nat_eq x y ≡ nat_eq y x
+flips x y = grind arith
+
+-- an attribute more at the end
+pub differ-last : (attrs : List (Attribute ℕ)) (a : Attribute ℕ) → names_differ nat_eq (attrs ++ a ∷ []) ≡ (names_differ nat_eq attrs && not (list_any (λ b. nat_eq b.0 a.0) attrs))
+differ-last [] a = refl
+differ-last (x ∷ xs) a =
+    (λ i. not ((list_any-append (λ b. nat_eq b.0 x.0) xs (a ∷ []) ∙ ap (λ v. list_any (λ b. nat_eq b.0 x.0) xs || (v || false)) (flips a.0 x.0)) i) && differ-last xs a i)
+    ∙ go (list_any (λ b. nat_eq b.0 x.0) xs) (names_differ nat_eq xs) (nat_eq x.0 a.0) (list_any (λ b. nat_eq b.0 a.0) xs)
+  where
+    go : (u d v w : Bool) → (not (u || (v || false)) && (d && not w)) ≡ ((not u && d) && not (v || w))
+    go u d v w = grind arith
+
+-- numbers that rise differ
+risen : (names : List ℕ) → IsStrictlyIncreasing names → IsDistinct eqb names
+risen names up = subst (λ (e : ℕ → ℕ → Bool). IsDistinct e names) (λ i x y. unsigned_tied x y i) (IsDistinct-from_sorted nat_cmp names (sorted_from_strictly_increasing names up))
+
+-- whether the name of an attribute is one of these
+abbrev among : (n : ℕ) (attrs : List (Attribute ℕ)) → Bool
+among n attrs = list_any (λ b. nat_eq b.0 n) attrs
+
+others : (n : ℕ) (attrs : List (Attribute ℕ)) → among n attrs ≡ false → AllByRecursion (λ m. eqb n m ≡ false) (names_of attrs)
+others n [] h = tt
+others n (a ∷ attrs) h = grind (arith, others n attrs)
+
+no-other : (n : ℕ) (attrs : List (Attribute ℕ)) → AllByRecursion (λ m. eqb n m ≡ false) (names_of attrs) → among n attrs ≡ false
+no-other n [] h = refl
+no-other n (a ∷ attrs) h = (λ i. (flips a.0 n ∙ h.0) i || among n attrs) ∙ no-other n attrs h.1
+
+distinct : (attrs : List (Attribute ℕ)) → names_differ nat_eq attrs ≡ true → IsDistinct eqb (names_of attrs)
+distinct [] h = risen [] (λ k p. absurd (omega (arith, p)))
+distinct (a ∷ attrs) h =
+    let parts = and_parts (not (among a.0 attrs)) (names_differ nat_eq attrs) h in
+    IsDistinct-cons eqb a.0 (names_of attrs) (others a.0 attrs (not-true (among a.0 attrs) parts.0)) (distinct attrs parts.1)
+
+differing : (attrs : List (Attribute ℕ)) → IsDistinct eqb (names_of attrs) → names_differ nat_eq attrs ≡ true
+differing [] h = refl
+differing (a ∷ attrs) h = λ i. not (no-other a.0 attrs (IsDistinct-head eqb a.0 (names_of attrs) h) i) && differing attrs (IsDistinct-tail eqb a.0 (names_of attrs) h) i
+
+-- whether each number is less than the next
+pub rising : (xs : List ℕ) (r : Bool) → IsAllAdjacentAnswer (λ x y b. b ≡ ltb x y) xs r → IsTrue r ↔ IsStrictlyIncreasing xs
+rising xs true h = ((λ _ k p. ltb-true (get_or xs k 0) (get_or xs (k + 1) 0) (sym (h k 0 p))), λ _. refl)
+rising xs false h = (
+  (λ (no : false ≡ true). absurd cc),
+  λ up. absurd (let yes : ltb (get_or xs h.0 0) (get_or xs (h.0 + 1) 0) ≡ true = lt-ltb _ _ (up h.0 h.1) in let both : false ≡ true = h.2 0 ∙ yes in cc),
+)
+
+-- names differ if they rise where they are in ascending order
+pub differ-is : (attrs : List (Attribute ℕ)) (names : List ℕ) (r : Bool) → IsPermutation (names_of attrs) names → IsNonDecreasing names → IsTrue r ↔ IsStrictlyIncreasing names → r ≡ names_differ nat_eq attrs
+differ-is attrs names true p up h = sym (differing attrs (IsDistinct-IsPermutation eqb flips names (names_of attrs) (IsPermutation-sym _ _ p) (risen names (h.0 refl))))
+differ-is attrs names false p up h = sym (false_from_ne_true _ (λ e. false≢true (h.1 (IsStrictlyIncreasing-from_distinct names up (IsDistinct-IsPermutation eqb flips (names_of attrs) names p (distinct attrs e))))))
+
+-- an attribute more, which the index does not have yet
+pub pushed : (x : Inside) (old : List (Attribute ℕ)) (new : Vec Attr Global) (a : Attr) (u : Bool) → AreNumbered x → inside_attributes x ≡ old → new.items ≡ x.attrs.items ++ a ∷ []
+    → u ≡ (names_differ nat_eq old && not (list_any (λ b. nat_eq b.0 a.name) old)) → AreNumbered (record x { attrs = new; differ = u })
+pushed x old new a u h view is test = record {
+  first = h.first ∙ ap attr_numbers (sym (take-append-le (length x.names) x.attrs.items (a ∷ []) (within x.names x.attrs.items h.first)) ∙ ap (take (length x.names)) (sym is));
+  differ = test ∙ sym (differ-last old (attribute_of a))
+      ∙ ap (names_differ nat_eq) (ap (λ l. l ++ attribute_of a ∷ []) (sym view) ∙ sym (map-append attribute_of x.attrs.items (a ∷ [])) ∙ ap (map attribute_of) (sym is));
+}

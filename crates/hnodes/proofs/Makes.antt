@@ -2,10 +2,9 @@
 use Rattle.hnodes.proofs.Names.{◌≡◌, ℕ, suc, ◌+◌, ◌<◌, eqb, ltb, cond, List, [], ◌∷◌, ◌++◌, Some, None, length, refl, ◌∙◌, ap, subst, arith, What, document, Forest, join, tree, none, make, Look, RowsStandIn, standing, whole, row_alone, is_loose, row_of, look_in, nodes_in, AreTree, IsKept, Node, Store}
 use Rattle.std.proofs.lemmas.List.{length_push}
 use Rattle.hnodes.proofs.Forests.{times-join, size-join, roots-join}
-use Rattle.hnodes.proofs.Linked.{Loose-agree, seen_loose}
-use Rattle.hnodes.proofs.Loose.{Loose-join}
+use Rattle.hnodes.proofs.Linked.{Loose-agree, seen_loose, Loose-join}
 use Rattle.hnodes.proofs.Roots.{loose-same}
-use Rattle.hnodes.proofs.Within.{test_under}
+use Rattle.hnodes.proofs.Cuts.{test_under}
 use Rattle.hnodes.proofs.Rows.{kept-push, look_in-before, look_in-last}
 
 one_more : (n count : ℕ) → cond (ltb n count) 1 0 + cond (eqb count n) 1 0 ≡ cond (ltb n (suc count)) 1 0

@@ -1,14 +1,21 @@
--- What the vector says of the value of a tree, and what is left to show after an edit.
-use Rattle.hnodes.proofs.Names.{◌≡◌, ℕ, zero, suc, true, ltb, cond, is_none, ◌++◌, ◌<◌, ◌≤◌, List, [], ◌∷◌, Option, Some, None, length, refl, sym, ◌∙◌, ap, subst, arith, Forest, What, document, tree, none, roots, change_what, Nodes, AreNodes, Row, Look, Loose, RowsStandIn, standing, loose, is_loose, parent_in, previous_in, next_in, with_what, at_row, look_in, row_of, content_is, get_or, set, eqb, option_map, nodes_in, inside_nodes, AreKept, AreTree, Holds, IsAmong, IsGrown, IsKept, IsTree, Node, NodeData, Store, Inside}
+-- What the calls of a tree have to show: what its fields say of its value, and what they say after an edit.
+use Rattle.hnodes.proofs.Names.{◌≡◌, ℕ, zero, suc, true, ltb, cond, is_none, ◌++◌, ◌<◌, ◌≤◌, List, [], ◌∷◌, Option, Some, None, length, refl, sym, ◌∙◌, ap, subst, arith, Forest, What, document, tree, none, roots, change_what, Nodes, AreNodes, Row, Look, Loose, RowsStandIn, standing, loose, is_loose, parent_in, previous_in, next_in, with_what, at_row, look_in, row_of, content_is, get_or, set, eqb, option_map, nodes_in, inside_nodes, AreKept, AreTree, Holds, IsAmong, IsGrown, IsKept, IsTree, Node, NodeData, Store, Inside, option_and_then, times, Spot, spot_of, parent_of, row_at, first_in, last_in, false, IsSome, All, IsOutside, graft_last, graft_before, detached, hooked, contents_of, IsSeenAs, IsWithin, ◌≢◌, eq-eqb, ne_eqb, lt-leb, join, tree_at, make, IsPlace, Place, LastIn, Before, row_alone, inr}
 use Rattle.std.specs.List.{HoldsAt}
 use Rattle.std.specs.Prelude.{Result, Ok, Err, OnOk, OnErr}
 use Rattle.std.proofs.lemmas.List.{length-set}
 use Rattle.hnodes.proofs.Stored.{grown-holds}
-use Rattle.hnodes.proofs.Rows.{kept-at, kept-grown, kept-set, look_in-at, look_in-grown, look_in-set}
-use Rattle.hnodes.proofs.Forests.{some_inj}
-use Rattle.hnodes.proofs.Within.{one-of, once-of, there, links-among}
+use Rattle.hnodes.proofs.Rows.{kept-at, kept-grown, kept-set, look_in-at, look_in-grown, look_in-set, row_seen, as_many}
+use Rattle.hnodes.proofs.Forests.{some_inj, Loose-spot, spot_of-join, tree_at-join}
+use Rattle.hnodes.proofs.Cuts.{one-of, once-of, there, links-among, there as is_there, ends-among}
 use Rattle.hnodes.proofs.Whats.{StandsIn-same, StandsIn-what, document-what}
-use Rattle.hnodes.proofs.Makes.{whole-stands}
+use Rattle.hnodes.proofs.Makes.{whole-stands, made_stands, made_view}
+use Rattle.hnodes.specs.View.{HasNode}
+use Rattle.std.proofs.Common.{IfSome, Result, Ok, Err, IsErrAnd}
+use Rattle.hnodes.proofs.Grafts.{Cut, cut_of, append-within, graft-standing, StandsIn-append, before-within, before-parent, StandsIn-before}
+use Rattle.hnodes.specs.Makes.{Makes}
+use Rattle.names.specs.declared.refusal.Refusal.{Refusal}
+use Rattle.names.specs.declared.refusal.Refusal.TheVariants.{Memory}
+use Rattle.hnodes.proofs.Inside.{tree_at-joined, tree_at-among}
 
 -- what the fields of a tree say of its value
 pub record Opened (t : Inside) (v : Nodes ℕ) : Type 0 where
@@ -147,3 +154,175 @@ module _ (t : Inside) (v : Nodes ℕ) (s : Store) (n j : ℕ) (x : Node) (c : No
       → AreTree s new t.limit × OnOk r (nodes_in s new t.limit ≡ record v { trees = change_what n g v.trees }) × OnErr r (nodes_in s new t.limit ≡ v)
   tried g (Ok a) stays ok err = let l = written g stays ok in (edited o l, edited_view o l, tt)
   tried g (Err e) stays ok err = let l = unwritten err in (edited o l, tt, edited_view o l)
+
+-- What a node that is read says of its place.
+
+-- the row of a node is that of its place
+place_seen : (t : Inside) (v : Nodes ℕ) (n : ℕ) → Opened t v → n < v.made → look_in t.store t.nodes.items n ≡ option_map row_at (spot_of n v.trees)
+place_seen t v n o h = Loose-spot (look_in t.store t.nodes.items) n v.trees (one-of (length t.nodes.items) (look_in t.store t.nodes.items) v.trees n o.stands (omega (arith, o.made))) o.stands.rows
+
+-- what is asked of a row is asked of a place
+asked : {A : Type 0} (g : Row ℕ → Option A) (r : Row ℕ) (o : Option (Spot ℕ)) → Some r ≡ option_map row_at o → g r ≡ option_and_then (λ s. g (row_at s)) o
+asked g r None e = cc
+asked g r (Some s) e = ap g (some_inj e)
+
+what_asked : (r : Row ℕ) (o : Option (Spot ℕ)) → Some r ≡ option_map row_at o → Some r.what ≡ option_map (λ s. s.what) o
+what_asked r None e = cc
+what_asked r (Some s) e = ap (λ (m : Row ℕ). Some m.what) (some_inj e)
+
+pub parent_is : (t : Inside) (v : Nodes ℕ) (n : ℕ) → Opened t v → n < v.made → parent_in (look_in t.store t.nodes.items n) ≡ parent_of n v.trees
+parent_is t v n o h = ap parent_in (place_seen t v n o h) ∙ go (spot_of n v.trees)
+  where
+    go : (o : Option (Spot ℕ)) → parent_in (option_map row_at o) ≡ option_and_then (λ s. s.parent) o
+    go o = grind arith
+
+if_some : (o : Option ℕ) (made : ℕ) → ((k : ℕ) → o ≡ Some k → k < made) → IfSome o (λ n. n < made)
+if_some None made h = tt
+if_some (Some k) made h = h k refl
+
+-- a node that was read
+pub lent : (t : Inside) (v : Nodes ℕ) (n k : ℕ) (x : Node) → inside_nodes t ≡ v → IsTree t → n < v.made → k ≡ n → x ≡ get_or t.nodes.items k x → HasNode n t.store x v
+lent t v n k x e s h same g =
+    let o : Opened t v = opened t v e s in
+    let look : Look ℕ = look_in t.store t.nodes.items in
+    let one : times n v.trees ≡ 1 = one-of (length t.nodes.items) look v.trees n o.stands (omega (arith, o.made)) in
+    let seen : look n ≡ Some (row_of t.store x) = row_seen t.store t.nodes.items n k x same (omega (arith, o.made)) g in
+    let at : Some (row_of t.store x) ≡ option_map row_at (spot_of n v.trees) = sym seen ∙ place_seen t v n o h in
+    let there : (j : ℕ) → 0 < times j v.trees → j < v.made = λ j p. let q = is_there (length t.nodes.items) look v.trees j o.stands p in omega (arith, o.made) in
+    let ends = ends-among look v.trees n one o.stands.rows in
+    let around = links-among look v.trees n one (once-of (length t.nodes.items) look v.trees o.stands) o.stands.rows in
+    record {
+      nodes = are_nodes t v o;
+      kept = kept-at t.store t.nodes.items n k x same (omega (arith, o.made)) g o.kept;
+      what = what_asked (row_of t.store x) (spot_of n v.trees) at;
+      parent = record { is = asked (λ r. r.parent) _ _ at; within = if_some x.parent v.made (λ j p. there j (around.0 j (ap parent_in seen ∙ p))) };
+      first = record { is = asked (λ r. r.first) _ _ at; within = if_some x.first v.made (λ j p. there j (ends.0 j (ap first_in seen ∙ p))) };
+      last = record { is = asked (λ r. r.last) _ _ at; within = if_some x.last v.made (λ j p. there j (ends.1 j (ap last_in seen ∙ p))) };
+      previous = record { is = asked (λ r. r.previous) _ _ at; within = if_some x.previous v.made (λ j p. there j (around.1 j (ap previous_in seen ∙ p))) };
+      next = record { is = asked (λ r. r.next) _ _ at; within = if_some x.next v.made (λ j p. there j (around.2 j (ap next_in seen ∙ p))) };
+    }
+
+-- What `append` and `insert_before` have to show.
+
+-- node n has left its place, q is outside of it, and x is q's row
+pub record Gone (t : Inside) (v : Nodes ℕ) (mid : List Node) (n q : ℕ) (x : Node) : Type 0 where
+  pub was : Opened t v
+  pub cut : Cut (length t.nodes.items) (look_in t.store t.nodes.items) (look_in t.store mid) v.trees n q
+  pub contents : contents_of mid ≡ contents_of t.nodes.items
+  pub seen : look_in t.store mid q ≡ Some (row_of t.store x)
+
+pub gone : (t : Inside) (v : Nodes ℕ) (mid : List Node) (n q j : ℕ) (x : Node) → inside_nodes t ≡ v → IsTree t → n < v.made → q < v.made → IsOutside q n v.trees → IsSeenAs (detached n) t.nodes.items mid
+    → j ≡ q → x ≡ get_or mid j x → Gone t v mid n q x
+gone t v mid n q j x e s h hq apart is at read =
+    let o = opened t v e s in
+    record {
+      was = o;
+      cut = cut_of (length t.nodes.items) (look_in t.store t.nodes.items) (look_in t.store mid) v.trees n q o.stands (omega (arith, o.made)) (omega (arith, o.made)) apart (is.rows t.store);
+      contents = is.contents;
+      seen = row_seen t.store mid q j x at (rw (as_many t.nodes.items mid is.contents) (omega (arith, o.made))) read;
+    }
+
+module _ {t : Inside} {v : Nodes ℕ} {mid : List Node} {n q : ℕ} {x : Node} (g : Gone t v mid n q x) where
+  pub last_within : IsWithin (length mid) x.last
+  last_within k e = rw (as_many t.nodes.items mid g.contents) (append-within (length t.nodes.items) (look_in t.store t.nodes.items) (look_in t.store mid) v.trees n q g.cut k (ap last_in g.seen ∙ e))
+
+  pub neighbours_within : IsWithin (length mid) x.parent × IsWithin (length mid) x.previous
+  neighbours_within =
+      let w = before-within (length t.nodes.items) (look_in t.store t.nodes.items) (look_in t.store mid) v.trees n q g.cut in
+      let many = as_many t.nodes.items mid g.contents in
+      ((λ k e. rw many (w.0 k (ap parent_in g.seen ∙ e))), (λ k e. rw many (w.1 k (ap previous_in g.seen ∙ e))))
+
+  -- q has its parent still
+  pub no_orphan : q < v.made → IsSome (parent_of q v.trees) → x.parent ≡ None → ⊥
+  no_orphan h up e =
+      let p : parent_of q v.trees ≡ None = sym (parent_is t v q g.was h) ∙ sym (before-parent (length t.nodes.items) (look_in t.store t.nodes.items) (look_in t.store mid) v.trees n q g.cut) ∙ ap parent_in g.seen ∙ e in
+      let no : false ≡ true = subst (λ (u : Option ℕ). IsSome u) p up in cc
+
+  -- it comes to another place
+  module _ (new : List Node) (some : 0 < n) where
+    left : (p : ℕ) (a c : Option ℕ) (f : Forest ℕ) → IsSeenAs (hooked n p a c) mid new → RowsStandIn (length t.nodes.items) (look_in t.store new) f → Left t t.store new f
+    left p a c f is stands = record {
+      kept = subst (All (IsKept t.store)) (sym (is.contents ∙ g.contents)) g.was.kept;
+      same = as_many t.nodes.items new (is.contents ∙ g.contents);
+      stands = stands;
+      begun = graft-standing (length t.nodes.items) (look_in t.store t.nodes.items) (look_in t.store mid) (look_in t.store new) v.trees n q p a c g.cut (is.rows t.store) 0 (λ e. omega arith) ∙ g.was.begun;
+    }
+
+    pub appended : (o : Option ℕ) → o ≡ None → IsSeenAs (hooked n q x.last o) mid new → Left t t.store new (graft_last n q v.trees)
+    appended o e seen =
+        let is = subst (λ (u : Option ℕ). IsSeenAs (hooked n q x.last u) mid new) e seen in
+        left q x.last None (graft_last n q v.trees) is
+        (StandsIn-append (length t.nodes.items) (look_in t.store t.nodes.items) (look_in t.store mid) (look_in t.store new) v.trees n q g.cut
+        (λ b. is.rows t.store b ∙ ap (λ l. hooked n q l None (look_in t.store mid) b) (sym (ap last_in g.seen))))
+
+    pub inserted : (p : ℕ) (o : Option ℕ) → x.parent ≡ Some p → o ≡ Some q → IsSeenAs (hooked n p x.previous o) mid new → Left t t.store new (graft_before n q v.trees)
+    inserted p o up e seen =
+        let is = subst (λ (u : Option ℕ). IsSeenAs (hooked n p x.previous u) mid new) e seen in
+        left p x.previous (Some q) (graft_before n q v.trees) is
+        (StandsIn-before (length t.nodes.items) (look_in t.store t.nodes.items) (look_in t.store mid) (look_in t.store new) v.trees n q p g.cut (ap parent_in g.seen ∙ up)
+        (λ b. is.rows t.store b ∙ ap (λ l. hooked n p l (Some q) (look_in t.store mid) b) (sym (ap previous_in g.seen))))
+
+-- A node that was just made is outside of every place.
+
+module _ {N : Type 0} where
+  -- a node made later is no node's parent
+  parent-made : (n m : ℕ) (f : Forest N) (w : What N) → n ≢ m → parent_of n (join f (tree m w none none)) ≡ parent_of n f
+  parent-made n m f w h = grind (arith, spot_of-join)
+
+pub place-made : (place : Place) (v : Nodes ℕ) (w : What ℕ) → IsPlace place v → IsPlace place (make w v)
+place-made (LastIn p) v w h = omega arith
+place-made (Before s) v w h = (omega (arith, h.0), subst (λ (o : Option ℕ). IsSome o) (sym (parent-made s v.made v.trees w (λ e. let k = h.0 in omega arith))) h.1)
+
+-- no node that was there is in the new one
+pub made-outside : (t : Inside) (v : Nodes ℕ) (w : What ℕ) → Opened t v → (k : ℕ) → k < v.made → IsOutside k v.made (make w v).trees
+made-outside t v w o k h =
+    let absent : times v.made v.trees ≡ 0 = o.stands.once v.made ∙ rw (o.made, lt-leb (suc v.made) v.made (omega arith)) refl in
+    ap (times k) (tree_at-join v.made v.trees (tree v.made w none none) absent) ∙ rw (eq-eqb v.made v.made refl, ne_eqb v.made k (λ e. omega arith)) refl
+
+-- the new one is in no node that was there
+pub made-apart : (t : Inside) (v : Nodes ℕ) (w : What ℕ) → Opened t v → (k : ℕ) → k < v.made → IsOutside v.made k (make w v).trees
+made-apart t v w o k h =
+    let absent : times v.made v.trees ≡ 0 = o.stands.once v.made ∙ rw (o.made, lt-leb (suc v.made) v.made (omega arith)) refl in
+    let alone : times v.made (tree_at k (tree v.made w none none)) ≡ 0 = rw (ne_eqb v.made k (λ e. omega arith)) refl in
+    omega (arith, tree_at-joined v.made k v.trees (tree v.made w none none), tree_at-among v.made k v.trees)
+
+-- a loose node more, that holds w over a store that grew
+module _ (t : Inside) (v : Nodes ℕ) (s : Store) (d : NodeData) (x : Node) (w : What ℕ) (o : Opened t v) (more : IsGrown t.store s) (held : Holds s d w)
+    (is : x ≡ record { content = d; parent = None; first = None; last = None; previous = None; next = None }) where
+  row : row_of s x ≡ row_alone w
+  row = ap (row_of s) is ∙ ap row_alone held.1
+
+  grown : AreTree s t.nodes.items t.limit
+  grown = edited o (grew t v s o more)
+
+  pub added : v.made < v.limit → AreTree s (t.nodes.items ++ x ∷ []) t.limit
+  added h = made_stands s t.nodes.items x w t.limit row grown (subst (λ (m : Node). IsKept s m.content) (sym is) held.0) (omega (arith, h, o.made, o.limit))
+
+  added_view : nodes_in s (t.nodes.items ++ x ∷ []) t.limit ≡ make w v
+  added_view = made_view s t.nodes.items x w t.limit row grown ∙ ap (make w) (edited_view o (grew t v s o more))
+
+  pub makes : (at n : ℕ) → v.made < v.limit → n ≡ length t.nodes.items → Makes w at v (nodes_in s (t.nodes.items ++ x ∷ []) t.limit) (Ok n)
+  makes at n h same = subst (λ (u : Nodes ℕ). Makes w at v u (Ok n)) (sym added_view) (subst (λ (m : ℕ). Makes w at v (make w v) (Ok m)) (sym (same ∙ o.made)) (record {
+    ok = refl;
+    number = (refl, begun_made t v o);
+    outside = made-outside t v w o;
+    apart = made-apart t v w o;
+    places = λ p. place-made p v w;
+    full = ((λ e. cc), (λ m. absurd (omega arith)));
+    refused = tt;
+    err = tt;
+  }))
+
+-- where there is no memory, nothing is seen
+pub makes_nothing : (t : Inside) (v : Nodes ℕ) (s : Store) (w : What ℕ) (at : ℕ) (r : Result ℕ Refusal) → Opened t v → IsGrown t.store s → v.made < v.limit → IsErrAnd r (λ e. e ≡ Memory) → Makes w at v (nodes_in s t.nodes.items t.limit) r
+makes_nothing t v s w at (Ok n) o more h is = absurd is
+makes_nothing t v s w at (Err e) o more h is = record {
+  ok = tt;
+  number = tt;
+  outside = tt;
+  apart = tt;
+  places = tt;
+  full = ((λ e. cc), (λ m. absurd (omega arith)));
+  refused = inr is;
+  err = edited_view o (grew t v s o more);
+}

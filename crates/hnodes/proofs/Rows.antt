@@ -1,9 +1,10 @@
 -- What the rows say after a write, and after a push.
-use Rattle.hnodes.proofs.Names.{◌≡◌, ◌≢◌, ℕ, zero, suc, ◌<◌, List, [], ◌∷◌, ◌++◌, Some, length, get_or, set, refl, sym, ◌∙◌, ap, subst, arith, option_map, Row, at_row, row_of, look_in, contents_of, AreKept, IsAmong, IsChanged, IsGrown, IsKept, Node, NodeData, Store}
-use Rattle.std.specs.List.{HoldsAt}
+use Rattle.hnodes.proofs.Names.{◌≡◌, ◌≢◌, ℕ, zero, suc, ◌<◌, List, [], ◌∷◌, ◌++◌, Some, length, get_or, set, refl, sym, ◌∙◌, ap, subst, arith, option_map, Row, at_row, row_of, look_in, contents_of, AreKept, IsAmong, IsChanged, IsGrown, IsKept, Node, NodeData, Store, eqb, cond, Option, None, Look, with_last, with_previous, with_place, after_link, before_link, spliced, detached, IsSeenAs}
+use Rattle.std.specs.List.{All, HoldsAt}
+use Rattle.std.proofs.Math.ListN.{get_or-map}
 use Rattle.std.proofs.Math.Seq.{map-set, map-set_same}
 use Rattle.std.proofs.lemmas.List.{length-map, map-append}
-use Rattle.std.proofs.lemmas.List.Elements.{All-append, All-set}
+use Rattle.std.proofs.lemmas.List.Elements.{All-push, All-set}
 use Rattle.hnodes.proofs.Stored.{grown-holds}
 
 -- what holds at a place holds of the node that was read there
@@ -48,20 +49,12 @@ module _ (s : Store) where
   row_seen xs k j x same h g = look_in-at xs k x h ∙ ap (λ m. Some (row_of s m)) (ap (λ (m : ℕ). get_or xs m x) (sym same) ∙ sym g)
 
   pub kept-at : (xs : List Node) (k j : ℕ) (x : Node) → j ≡ k → k < length xs → x ≡ get_or xs j x → AreKept s xs → IsKept s x.content
-  kept-at xs k j x same h g are = read_at (λ (m : Node). IsKept s m.content) xs k j x same g (λ d. go d xs k h are)
-    where
-      go : (d : Node) (xs : List Node) (k : ℕ) → k < length xs → AreKept s xs → IsKept s (get_or xs k d).content
-      go d [] k h are = absurd (omega arith)
-      go d (z ∷ zs) zero h are = are 0 z.content (omega arith)
-      go d (z ∷ zs) (suc k) h are = go d zs k (omega arith) (λ i o e. are (suc i) o (omega arith))
+  kept-at xs k j x same h g are =
+      read_at (λ (m : Node). IsKept s m.content) xs k j x same g
+      (λ d. subst (IsKept s) (get_or-map (λ (m : Node). m.content) xs k d) (are k d.content (omega (arith, length-map xs (λ (m : Node). m.content)))))
 
   pub kept-push : (xs : List Node) (y : Node) → AreKept s xs → IsKept s y.content → AreKept s (xs ++ y ∷ [])
-  kept-push xs y are is = subst (λ (cs : List NodeData). (k : ℕ) (d : NodeData) → k < length cs → IsKept s (get_or cs k d)) (sym (map-append _ xs (y ∷ [])))
-      (All-append (IsKept s) (contents_of xs) (y.content ∷ []) are go)
-    where
-      go : (k : ℕ) (d : NodeData) → k < 1 → IsKept s (get_or (y.content ∷ []) k d)
-      go zero d h = is
-      go (suc k) d h = absurd (omega arith)
+  kept-push xs y are is = subst (λ (cs : List NodeData). All (IsKept s) cs) (sym (map-append _ xs (y ∷ []))) (All-push (IsKept s) (contents_of xs) y.content are is)
 
   pub kept-set : (xs : List Node) (j : ℕ) (y : Node) → AreKept s xs → IsKept s y.content → AreKept s (set xs j y)
   kept-set xs j y are is = subst (λ (cs : List NodeData). (k : ℕ) (d : NodeData) → k < length cs → IsKept s (get_or cs k d)) (sym (map-set (λ (m : Node). m.content) xs j y))
@@ -85,3 +78,28 @@ pub look_in-grown : (old new : Store) (xs : List Node) → IsGrown old new → A
 look_in-grown old new [] g are n = refl
 look_in-grown old new (x ∷ xs) g are zero = ap (λ w. Some (record (row_of old x) { what = w })) (grown-holds old new x.content g (are 0 x.content (omega arith))).1
 look_in-grown old new (x ∷ xs) g are (suc n) = look_in-grown old new xs g (λ i d e. are (suc i) d (omega arith)) n
+
+-- What the rows say after several writes.
+
+at_row-same : (k : ℕ) (f : Row ℕ → Row ℕ) (look new : Look ℕ) (n : ℕ) → new n ≡ look n → at_row k f new n ≡ at_row k f look n
+at_row-same k f look new n e = ap (λ o. cond (eqb n k) (option_map f o) o) e
+
+before_link-same : (q : ℕ) (y x : Option ℕ) (look new : Look ℕ) (n : ℕ) → new n ≡ look n → before_link q y x new n ≡ before_link q y x look n
+before_link-same q None x look new n e = at_row-same q (with_last x) look new n e
+before_link-same q (Some c) x look new n e = at_row-same c (with_previous x) look new n e
+
+-- three writes: after one neighbour, before the other, and between them
+pub placed_by : (a b c d : List Node) (k q : ℕ) (l r x y : Option ℕ) (f : Row ℕ → Row ℕ) → IsSeenAs (after_link q l y) a b → IsSeenAs (before_link q r x) b c → IsChanged k f c d → IsSeenAs (λ look. at_row k f (spliced q l r x y look)) a d
+placed_by a b c d k q l r x y f s t u = record {
+  contents = u.contents ∙ t.contents ∙ s.contents;
+  rows = λ m n. u.rows m n ∙ at_row-same k f (spliced q l r x y (look_in m a)) (look_in m c) n (t.rows m n ∙ before_link-same q r x (after_link q l y (look_in m a)) (look_in m b) n (s.rows m n));
+}
+
+pub detached_by : (a b c d : List Node) (k q : ℕ) (x : Node) → ((m : Store) → look_in m a k ≡ Some (row_of m x)) → x.parent ≡ Some q
+    → IsSeenAs (after_link q x.previous x.next) a b → IsSeenAs (before_link q x.next x.previous) b c → IsChanged k (with_place None None None) c d → IsSeenAs (detached k) a d
+detached_by a b c d k q x seen up s t u =
+    let p = placed_by a b c d k q x.previous x.next x.previous x.next (with_place None None None) s t u in
+    record { contents = p.contents; rows = λ m n. rw (seen m, up) (p.rows m n) }
+
+pub stays_by : (a : List Node) (k : ℕ) (x : Node) → ((m : Store) → look_in m a k ≡ Some (row_of m x)) → x.parent ≡ None → IsSeenAs (detached k) a a
+stays_by a k x seen up = record { contents = refl; rows = λ m n. rw (seen m, up) refl }

@@ -1,11 +1,16 @@
--- A walk over siblings.
-use Rattle.hnodes.proofs.Names.{◌≡◌, ℕ, ◌<◌, ◌∷◌, Some, None, refl, sym, ◌∙◌, ap, arith, option_and_then, ◌⊎◌, inl, inr, eq-eqb, What, Forest, none, tree, roots, times, join, children_of, Spot, spot_of, first_or, first_child_of, next_of, AreCounted, siblings_from}
+-- Walks: over siblings, over all nodes in tree order with their texts, and over the elements among siblings.
+use Rattle.hnodes.proofs.Names.{◌≡◌, ℕ, ◌<◌, ◌∷◌, Some, None, refl, sym, ◌∙◌, ap, arith, option_and_then, ◌⊎◌, inl, inr, eq-eqb, What, Forest, none, tree, roots, times, join, children_of, Spot, spot_of, first_or, first_child_of, next_of, AreCounted, siblings_from, List, [], ◌++◌, unwrap_or, All-nil, All-cons, flat_map, All, option_map, what_of, order, own_text, forest_texts, true, false, cond, length, Option, subst, All-head, elements_among, is_element, IfSome, IsTrue}
 use Rattle.hnodes.specs.Passed.{following}
 use Rattle.hnodes.proofs.Forests.{times-join, join-assoc}
 use Rattle.hnodes.proofs.Levels.{level, Here, Below}
 use Rattle.hnodes.proofs.Families.{first_child-is, children-among}
 use Rattle.hnodes.proofs.Counted.{at-most, is-there, one-there, was-made}
 use Rattle.hnodes.proofs.ChildSpots.{child-spot, root-spot}
+use Rattle.std.proofs.lemmas.Grind.{flat_map-append}
+use Rattle.std.proofs.lemmas.List.Elements.{All-append, All-drop, All-filter, All-tail}
+use Rattle.hnodes.proofs.TreeOrder.{Entered, entered}
+use Rattle.std.proofs.Math.Seq.{drop-append_seam}
+use Rattle.std.specs.Prelude.{slice_get}
 
 module _ {N : Type 0} (made : ℕ) (f : Forest N) (counted : AreCounted made f) where
   -- a child, and those after it
@@ -43,3 +48,64 @@ module _ {N : Type 0} (made : ℕ) (f : Forest N) (counted : AreCounted made f) 
             where
               low : p.parent < made
               low = was-made made f counted p.parent (omega (arith, p.one))
+
+-- The nodes and the texts in tree order.
+
+module _ {N : Type 0} where
+  -- the characters of node n
+  abbrev pub text_at : Forest N → ℕ → List ℕ
+  text_at f n = unwrap_or (option_map own_text (what_of n f)) []
+
+  module _ (made : ℕ) (f : Forest N) (counted : AreCounted made f) where
+    texts-walked : (q : ℕ) (L g : Forest N) → q < made → children_of q f ≡ join L g → forest_texts g ≡ flat_map (text_at f) (order g)
+    texts-walked q L none h is = refl
+    texts-walked q L (tree b w k R) h is = go (entered made f counted q q b w L k R h is) (texts-walked b none k) (texts-walked q (join L (tree b w k none)) R h (is ∙ sym (join-assoc L (tree b w k none) R)))
+      where
+        go : Entered made q q b w k R f → (b < made → children_of b f ≡ k → forest_texts k ≡ flat_map (text_at f) (order k)) → forest_texts R ≡ flat_map (text_at f) (order R)
+            → forest_texts (tree b w k R) ≡ flat_map (text_at f) (order (tree b w k R))
+        go a l r =
+            let kids = l a.made_is a.kids in
+            (λ i. unwrap_or (option_map own_text (sym a.what i)) [] ++ (kids i ++ r i)) ∙ ap (λ t. text_at f b ++ t) (sym (flat_map-append (text_at f) (order k) (order R)))
+
+    within-walked : (q : ℕ) (L g : Forest N) → q < made → children_of q f ≡ join L g → All (λ n. n < made) (order g)
+    within-walked q L none h is = All-nil (λ n. n < made)
+    within-walked q L (tree b w k R) h is = go (entered made f counted q q b w L k R h is) (within-walked b none k) (within-walked q (join L (tree b w k none)) R h (is ∙ sym (join-assoc L (tree b w k none) R)))
+      where
+        go : Entered made q q b w k R f → (b < made → children_of b f ≡ k → All (λ n. n < made) (order k)) → All (λ n. n < made) (order R) → All (λ n. n < made) (order (tree b w k R))
+        go a l r = All-cons (λ n. n < made) b (order k ++ order R) a.made_is (All-append (λ n. n < made) (order k) (order R) (l a.made_is a.kids) r)
+
+    -- the nodes inside a node were made, and its texts are theirs
+    pub texts-order : (n : ℕ) → n < made → forest_texts (children_of n f) ≡ flat_map (text_at f) (order (children_of n f))
+    texts-order n h = texts-walked n none (children_of n f) h refl
+
+    pub within-order : (n : ℕ) → n < made → All (λ m. m < made) (order (children_of n f))
+    within-order n h = within-walked n none (children_of n f) h refl
+
+-- The elements among siblings.
+
+module _ {N : Type 0} (f : Forest N) where
+  -- an element is first among elements, and other nodes are passed over
+  pub element-first : (n : ℕ) (ns : List ℕ) → is_element f n ≡ true → elements_among (n ∷ ns) f ≡ n ∷ elements_among ns f
+  element-first n ns e = ap (λ b. cond b (n ∷ elements_among ns f) (elements_among ns f)) e
+
+  pub element-none : (n : ℕ) (ns : List ℕ) → is_element f n ≡ false → elements_among (n ∷ ns) f ≡ elements_among ns f
+  element-none n ns e = ap (λ b. cond b (n ∷ elements_among ns f) (elements_among ns f)) e
+
+  -- a node that is an element is the first element among itself and its siblings, and without a node there is none
+  pub element-at_first : (made : ℕ) (o : Option ℕ) → IfSome o (λ n. (n < made) × IsTrue (is_element f n)) → o ≡ slice_get (elements_among (siblings_from o f) f) 0
+  element-at_first made None h = refl
+  element-at_first made (Some n) h = ap (λ ns. slice_get ns 0) (sym (element-first n (following (spot_of n f)) h.1))
+
+  roots-within : (P : ℕ → Type 0) (g : Forest N) → All P (order g) → All P (roots g)
+  roots-within P none h = All-nil P
+  roots-within P (tree b w k R) h =
+      let rest : All P (order k ++ order R) = All-tail P b (order k ++ order R) h in
+      All-cons P b (roots R) (All-head P b (order k ++ order R) h) (roots-within P R (subst (λ (ns : List ℕ). All P ns) (drop-append_seam (order k) (order R)) (All-drop P (length (order k)) (order k ++ order R) rest)))
+
+  -- the children of a node were made
+  pub children-made : (made : ℕ) → AreCounted made f → (q : ℕ) → q < made → All (λ n. n < made) (roots (children_of q f))
+  children-made made counted q h = roots-within (λ n. n < made) (children_of q f) (within-order made f counted q h)
+
+  -- and the elements among them
+  pub elements-made : (made : ℕ) → AreCounted made f → (q : ℕ) → q < made → All (λ n. n < made) (elements_among (roots (children_of q f)) f)
+  elements-made made counted q h = All-filter (is_element f) (λ n. n < made) (roots (children_of q f)) (children-made made counted q h)

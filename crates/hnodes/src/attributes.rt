@@ -91,26 +91,19 @@ pub(crate) fn few_differ(mut attrs: Attrs) -> bool
     true
 }
 
-/// Whether the names of many attributes differ. Sorts them.
-pub(crate) fn many_differ(attrs: Attrs, alloc: Global) -> Result<bool, AllocError>
-    ensures { IfOk result (λ differ. differ ≡ names_differ nat_eq attrs.entry) }
-{
-    let mut names = Vec::new(alloc);
-    for (name, _) in attrs {
-        names.push(name.index())?;
-    }
-    names.sort_unstable();
-    Ok(names.is_sorted_by(|name, next| name < next))
-}
-
-/// Whether the names of attributes differ.
+/// Whether the names of attributes differ. Compares a few with one another, and sorts more.
 pub(crate) fn differ(attrs: Attrs, alloc: Global) -> Result<bool, AllocError>
     ensures { IfOk result (λ differ. differ ≡ names_differ nat_eq attrs.entry) }
 {
     if attrs.len() <= FEW_ATTRIBUTES {
         return Ok(few_differ(attrs));
     }
-    many_differ(attrs, alloc)
+    let mut names = Vec::new(alloc);
+    for (name, _) in attrs {
+        names.push(name.index())?;
+    }
+    names.sort_unstable();
+    Ok(names.is_sorted_by(|name, next| name < next))
 }
 
 /// Whether a text has neither NUL nor CR.

@@ -172,6 +172,7 @@ pub(crate) enum Given<'a> {
     Doctype(DocumentType),
     Element(NameId, &'a mut Vec<Attr>),
     Sharing(NameId, Attributes),
+    /// An element of attributes that others share, of which a few are copied.
     Copied(NameId, &'a Attributes),
     Comment(String),
     Text(&'a str),
@@ -191,7 +192,10 @@ pub(crate) fn content(
         Given::Doctype(texts) => Ok(NodeData::Doctype(Box::new(alloc, texts)?)),
         Given::Element(name, attrs) => element(name, attrs, store, alloc),
         Given::Sharing(name, attrs) => Ok(sharing(name, attrs)),
-        Given::Copied(name, attrs) => copied(name, attrs, store),
+        Given::Copied(name, attrs) => match stored(attrs.as_slice(), store)? {
+            Some(run) => Ok(NodeData::Element(name, run)),
+            None => Ok(sharing(name, attrs.share()?)),
+        },
         Given::Comment(text) => match store.texts.add(&text)? {
             Some(run) => Ok(NodeData::Comment(run)),
             None => Ok(NodeData::LongComment(Box::new(alloc, text)?)),
@@ -234,18 +238,6 @@ fn stored(attrs: &[Attr], store: &mut Store) -> Result<Option<Run>, AllocError>
         return Ok(None);
     }
     store.add_attrs(attrs)
-}
-
-/// An element with attributes of a list that others share. A few are copied to the store.
-#[inline(always)]
-fn copied(name: NameId, attrs: &Attributes, store: &mut Store) -> Result<NodeData, AllocError>
-    ensures content { IfOk result (λ c. Holds store.new c (element name attrs.now)) }
-    ensures grown { IsGrown store.old store.new }
-{
-    match stored(attrs.as_slice(), store)? {
-        Some(run) => Ok(NodeData::Element(name, run)),
-        None => Ok(sharing(name, attrs.share()?)),
-    }
 }
 
 /// An element with an index of its attributes.

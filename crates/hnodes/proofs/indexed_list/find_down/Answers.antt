@@ -1,5 +1,5 @@
 use Rattle.hnodes.proofs.IndexNames.{◌-◌, get_or, sym, ◌∙◌, arith, get_or_default, Link}
-use Rattle.hnodes.proofs.Walked.{IsAt, walk-here, walk-le, walk-on, walk-not}
+use Rattle.hnodes.proofs.IndexSteps.{IsAt, walk-here, walk-le, walk-on, walk-not}
 use Rattle.hnodes.proofs.indexed_list.find_down.Goals as goal
 
 abbrev nothing : Link

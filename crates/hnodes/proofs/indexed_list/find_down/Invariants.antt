@@ -1,5 +1,5 @@
 use Rattle.hnodes.proofs.IndexNames.{◌≡◌, ◌==◌, ◌≤◌, length, last_up, numbers_of}
-use Rattle.hnodes.proofs.Walked.{Walks}
+use Rattle.hnodes.proofs.IndexSteps.{Walks}
 use Rattle.hnodes.proofs.indexed_list.find_down.Given as goal
 
 abbrev pub invariant-loop-place : goal.invariant-loop-place

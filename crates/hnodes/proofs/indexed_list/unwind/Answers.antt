@@ -1,5 +1,4 @@
 use Rattle.hnodes.proofs.IndexNames.{◌≡◌, ℕ, ◌-◌, ◌<◌, length, get_or, subst, arith, get_or_default, Link}
-use Rattle.std.proofs.lemmas.Grind.{common_steps}
 use Rattle.hnodes.proofs.IndexSteps.{IndexedTo, is_indexed-to, less-none, less-some}
 use Rattle.hnodes.proofs.indexed_list.unwind.Goals as goal
 
@@ -39,6 +38,3 @@ returns c =
     let is : c.loop-end.end ≡ c.args.from = omega arith in
     let to : IndexedTo c.loop-end.last links c.args.from = subst (λ (m : ℕ). IndexedTo c.loop-end.last links m) is c.loop-end.invariant.indexed in
     is_indexed-to c.loop-end.last links c.args.from c.requires.within (λ some. omega (arith, c.requires.indexed.wide (omega arith))) to
-
-pub loop-end-init : goal.loop-end-init
-loop-end-init c = grind (arith, common_steps)

@@ -1,6 +1,5 @@
 use Rattle.hnodes.proofs.Names.{ℕ, Option, sym, ◌∙◌, subst, with_place, IsChanged}
-use Rattle.hnodes.proofs.Rows.{as_many, neighbours, row_seen}
-use Rattle.hnodes.proofs.Relinks.{detached_by, stays_by}
+use Rattle.hnodes.proofs.Rows.{as_many, neighbours, row_seen, detached_by, stays_by}
 use Rattle.hnodes.proofs.links.detach.Goals as goal
 
 pub link_after-requires-clause-parent_in : goal.link_after-requires-clause-parent_in

@@ -1,5 +1,5 @@
 use Rattle.hnodes.proofs.Names.{ℕ, Option, subst, after_link, before_link, with_place, IsSeenAs, IsChanged}
-use Rattle.hnodes.proofs.Relinks.{placed_by}
+use Rattle.hnodes.proofs.Rows.{placed_by}
 use Rattle.hnodes.proofs.links.hook.Goals as goal
 
 pub returns : goal.returns

@@ -1,5 +1,5 @@
 use Rattle.hnodes.proofs.IndexNames.{◌<◌, length, sym, ◌∙◌, ap, add-one, arith, last_up, numbers_of, in_group_of, get_or}
-use Rattle.hnodes.proofs.Groups.{group-less}
+use Rattle.hnodes.proofs.IndexSteps.{group-less}
 use Rattle.hnodes.proofs.Relinked.{walk-before, walk-next, length-numbers, down-within, down-less, down-walk}
 use Rattle.hnodes.proofs.relink.link_at.Goals as goal
 

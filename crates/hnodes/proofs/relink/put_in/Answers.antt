@@ -1,6 +1,5 @@
 use Rattle.hnodes.proofs.IndexNames.{◌+◌, length, sym, ◌∙◌, add-one, numbers_of, arith, length-set, map-set, link_number, group_of, ap, cond, eqb, set}
-use Rattle.hnodes.proofs.Relinked.{rewritten, set-known}
-use Rattle.hnodes.proofs.Edited.{In, in-differ, in-group-less, in-here, in-within, in-keeps}
+use Rattle.hnodes.proofs.Relinked.{rewritten, set-known, In, in-differ, in-group-less, in-here, in-within, in-keeps}
 use Rattle.hnodes.proofs.relink.put_in.Goals as goal
 
 pub hint_at-requires : goal.hint_at-requires

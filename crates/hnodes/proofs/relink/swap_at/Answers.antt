@@ -1,7 +1,6 @@
 use Rattle.hnodes.proofs.IndexNames.{◌≡◌, ℕ, ◌+◌, ◌<◌, ◌≢◌, set, List, length, get_or, sym, ◌∙◌, ap, subst, arith, get_or-set_other, none, numbers_of, FitsAt, Link, group_of}
-use Rattle.hnodes.proofs.Groups.{group-of}
-use Rattle.hnodes.proofs.Relinked.{length-numbers, number-at, freed, set-known}
-use Rattle.hnodes.proofs.Swapped.{fit-down, fit-same, fit-other, exchanged}
+use Rattle.hnodes.proofs.IndexSteps.{group-of}
+use Rattle.hnodes.proofs.Relinked.{length-numbers, number-at, freed, set-known, fit-down, fit-same, fit-other, exchanged}
 use Rattle.hnodes.proofs.relink.swap_at.Goals as goal
 use Rattle.hnodes.proofs.relink.swap_at.Goals.{then-same, else-same}
 

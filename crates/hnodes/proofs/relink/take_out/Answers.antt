@@ -1,6 +1,5 @@
 use Rattle.hnodes.proofs.IndexNames.{◌≡◌, ℕ, List, length, set, refl, sym, ◌∙◌, subst, arith, length-set, map-set, none, link_number, numbers_of, FitsAt, Link, group_of, ap, cond, eqb}
-use Rattle.hnodes.proofs.Relinked.{nth, rewritten, number-at, is-some, set-known}
-use Rattle.hnodes.proofs.Edited.{Out, out-differ, out-group, out-before, out-within, out-fit}
+use Rattle.hnodes.proofs.Relinked.{nth, rewritten, number-at, is-some, set-known, Out, out-differ, out-group, out-before, out-within, out-fit}
 use Rattle.hnodes.proofs.relink.take_out.Goals as goal
 
 pub hint_at-requires : goal.hint_at-requires

@@ -1,4 +1,4 @@
-use Rattle.hnodes.proofs.Differing.{pushed}
+use Rattle.hnodes.proofs.Indexed.{pushed}
 use Rattle.hnodes.proofs.attributes.Indexed.push.Goals as goal
 
 pub invariant_of-self-2 : goal.invariant_of-self-2

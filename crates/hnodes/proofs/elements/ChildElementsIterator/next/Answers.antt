@@ -1,6 +1,5 @@
 use Rattle.hnodes.proofs.Names.{◌<◌, ◌∷◌, ◌∙◌, ap, sym, subst, length, Option, ℕ, rules, IfSome, IsTrue, elements_among, is_element, siblings_from}
-use Rattle.hnodes.proofs.ElementLemmas.{element-first}
-use Rattle.hnodes.proofs.Siblings.{siblings-step}
+use Rattle.hnodes.proofs.Siblings.{element-first, siblings-step}
 use Rattle.hnodes.proofs.elements.ChildElementsIterator.next.Goals as goal
 
 pub returns-clause-steps : goal.returns-clause-steps

@@ -1,5 +1,5 @@
 use Rattle.hnodes.proofs.IndexNames.{◌≡◌, ◌≢◌, ℕ, ◌-◌, ◌≤◌, ◌<◌, ◌==◌, List, length, get_or, ap, sym, ◌∙◌, subst, arith, length-map, none, last_up, link_number, numbers_of, IsIndexed, Link}
-use Rattle.hnodes.proofs.Walked.{IsAt, number-at, walk-from, walk-le, walk-on, walk-down}
+use Rattle.hnodes.proofs.IndexSteps.{IsAt, number-at, walk-from, walk-le, walk-on, walk-down}
 use Rattle.hnodes.proofs.indexed_list.IndexedList.before.Goals as goal
 
 -- the links that a call is given are those of the list, and so is the one that was read

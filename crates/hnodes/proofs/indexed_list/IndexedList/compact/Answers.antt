@@ -1,10 +1,26 @@
-use Rattle.hnodes.proofs.IndexNames.{◌≡◌, ℕ, ◌+◌, ◌-◌, ◌≤◌, ◌==◌, not, List, length, take, drop, ◌++◌, ap, sym, ◌∙◌, subst, arith, with_items_is, map-append, take-map, length-take-le, length-drop, length-map, filter, none, link_number, numbers_of, IsIndexed, Link}
+use Rattle.hnodes.proofs.IndexNames.{◌≡◌, ℕ, ◌+◌, ◌-◌, ◌≤◌, ◌==◌, not, List, length, take, drop, ◌++◌, ap, sym, ◌∙◌, subst, arith, with_items_is, Bool, [], ◌∷◌, refl, take-append-le, map-append, take-map, length-take-le, length-drop, length-map, filter, none, link_number, numbers_of, IsIndexed, Link, map}
 use Rattle.std.proofs.lemmas.List.{take_rest, drop-map, length-append}
 use Rattle.std.specs.Vec.{with_items}
 use borrow.Rule.Slice.PartMut.{post_of}
 use Rattle.hnodes.proofs.Borrowed.{borrowed}
-use Rattle.hnodes.proofs.Tails.{take-anew, front-of, map-filter}
+use Rattle.std.proofs.Math.Seq.{take-append-add, take-take}
 use Rattle.hnodes.proofs.indexed_list.IndexedList.compact.Goals as goal
+
+-- what is left of a list whose tail begins anew
+take-anew : {X : Type 0} (a k : ℕ) (xs ys zs : List X) → a ≤ length xs → k ≤ length ys → take (a + k) (take a xs ++ (ys ++ zs)) ≡ take a xs ++ take k ys
+take-anew a k xs ys zs in_xs in_ys =
+    ap (λ n. take (n + k) (take a xs ++ (ys ++ zs))) (sym (length-take-le a xs in_xs)) ∙ take-append-add (take a xs) (ys ++ zs) k ∙ ap (λ m. take a xs ++ m) (take-append-le k ys zs in_ys)
+
+-- and its front is the one that it had
+front-of : {X : Type 0} (a k : ℕ) (xs ys : List X) → a ≤ length xs → take a (take (a + k) (take a xs ++ ys)) ≡ take a xs
+front-of a k xs ys in_xs =
+    take-take a (a + k) (take a xs ++ ys) (omega arith) ∙ take-append-le a (take a xs) ys (omega (arith, length-take-le a xs in_xs)) ∙ take-take a a xs (omega arith)
+
+-- a test of what the members are seen as
+module _ {X Y : Type 0} (f : X → Y) (p : Y → Bool) where
+  map-filter : (xs : List X) → map f (filter (λ x. p (f x)) xs) ≡ filter p (map f xs)
+  map-filter [] = refl
+  map-filter (x ∷ xs) = grind (arith, map-filter xs)
 
 pub unwind-requires : goal.unwind-requires
 unwind-requires c =

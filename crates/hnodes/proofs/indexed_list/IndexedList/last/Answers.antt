@@ -1,5 +1,5 @@
 use Rattle.hnodes.proofs.IndexNames.{◌≡◌, ◌<◌, ◌==◌, List, length, get_or, ap, sym, ◌∙◌, subst, rules, last_up, numbers_of, IsIndexed, Link, group_of}
-use Rattle.hnodes.proofs.Walked.{last-le, last-walks, last-found}
+use Rattle.hnodes.proofs.IndexSteps.{last-le, last-walks, last-found}
 use Rattle.hnodes.proofs.indexed_list.IndexedList.last.Goals as goal
 
 pub find_down-requires : goal.find_down-requires

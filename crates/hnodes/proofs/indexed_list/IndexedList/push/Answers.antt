@@ -1,7 +1,6 @@
 use Rattle.hnodes.proofs.IndexNames.{◌≡◌, ◌<◌, List, [], ◌∷◌, ◌++◌, suc, length, get_or, set, refl, ap, sym, ◌∙◌, subst, arith, rules, with_items_is, length_push, get_or_default, map-append, link_number, numbers_of, IsIndexed, AreIndexed, Link, group_of}
-use Rattle.hnodes.proofs.IndexSteps.{indexed-push, indexed-same}
+use Rattle.hnodes.proofs.IndexSteps.{indexed-push, indexed-same, last-le}
 use Rattle.hnodes.proofs.Borrowed.{borrowed, on_err}
-use Rattle.hnodes.proofs.Walked.{last-le}
 use Rattle.hnodes.proofs.indexed_list.IndexedList.push.Goals as goal
 
 pub make_room-requires : goal.make_room-requires

@@ -1,5 +1,4 @@
-use Rattle.hnodes.proofs.Opened.{opened, linked, edited, edited_view}
-use Rattle.hnodes.proofs.Moves.{gone, last_within, appended}
+use Rattle.hnodes.proofs.Opened.{opened, linked, edited, edited_view, gone, last_within, appended}
 use Rattle.hnodes.proofs.tree.Tree.append.Goals as goal
 
 pub detach-requires-clause-neighbours : goal.detach-requires-clause-neighbours

@@ -1,6 +1,5 @@
 use Rattle.hnodes.proofs.Names.{◌<◌, ◌∙◌, ap, sym, subst, List, ℕ, All, elements_among, siblings_from}
-use Rattle.hnodes.proofs.ElementLemmas.{elements-made}
-use Rattle.hnodes.proofs.Siblings.{children-from}
+use Rattle.hnodes.proofs.Siblings.{elements-made, children-from}
 use Rattle.hnodes.proofs.tree.Tree.child_elements.Goals as goal
 
 pub returns-clause-order : goal.returns-clause-order

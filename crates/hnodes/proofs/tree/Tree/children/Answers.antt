@@ -1,6 +1,5 @@
 use Rattle.hnodes.proofs.Names.{sym, subst, List, ℕ, ◌<◌, All}
-use Rattle.hnodes.proofs.ElementLemmas.{children-made}
-use Rattle.hnodes.proofs.Siblings.{children-from}
+use Rattle.hnodes.proofs.Siblings.{children-made, children-from}
 use Rattle.hnodes.proofs.tree.Tree.children.Goals as goal
 
 pub returns-clause-order : goal.returns-clause-order

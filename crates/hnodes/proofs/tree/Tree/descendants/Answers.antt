@@ -1,7 +1,7 @@
 use Rattle.hnodes.proofs.Names.{sym, subst, ap, arith, length, children_of, List, ℕ, ◌<◌, All}
 use Rattle.hnodes.proofs.Sizes.{inside-few, order-long}
 use Rattle.hnodes.proofs.TreeOrder.{begins, first-inside}
-use Rattle.hnodes.proofs.TextOrder.{within-order}
+use Rattle.hnodes.proofs.Siblings.{within-order}
 use Rattle.hnodes.proofs.tree.Tree.descendants.Goals as goal
 
 pub invariant_of-result : goal.invariant_of-result

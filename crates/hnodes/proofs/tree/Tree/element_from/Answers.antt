@@ -1,7 +1,6 @@
 use Rattle.hnodes.proofs.Names.{◌≡◌, ◌<◌, ◌∷◌, ◌∙◌, ap, sym, subst, arith, false, length, Option, ℕ, IfSome, elements_among, is_element, siblings_from}
 use Rattle.std.specs.Prelude.{is_some}
-use Rattle.hnodes.proofs.ElementLemmas.{element-none}
-use Rattle.hnodes.proofs.Siblings.{siblings-step}
+use Rattle.hnodes.proofs.Siblings.{element-none, siblings-step}
 use Rattle.hnodes.proofs.tree.Tree.element_from.Goals as goal
 
 pub loop-next-smaller : goal.loop-next-smaller

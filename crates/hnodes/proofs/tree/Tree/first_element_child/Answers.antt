@@ -1,7 +1,6 @@
 use Rattle.hnodes.proofs.Names.{◌∙◌, ap, sym, elements_among, siblings_from}
 use Rattle.std.specs.Prelude.{slice_get}
-use Rattle.hnodes.proofs.ElementLemmas.{element-at_first}
-use Rattle.hnodes.proofs.Siblings.{children-from}
+use Rattle.hnodes.proofs.Siblings.{element-at_first, children-from}
 use Rattle.hnodes.proofs.tree.Tree.first_element_child.Goals as goal
 
 pub returns-clause-child : goal.returns-clause-child

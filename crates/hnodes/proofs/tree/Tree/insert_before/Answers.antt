@@ -1,6 +1,5 @@
 use Rattle.hnodes.proofs.Names.{◌∙◌, sym}
-use Rattle.hnodes.proofs.Opened.{opened, linked, edited, edited_view}
-use Rattle.hnodes.proofs.Moves.{gone, neighbours_within, inserted, no_orphan}
+use Rattle.hnodes.proofs.Opened.{opened, linked, edited, edited_view, gone, neighbours_within, inserted, no_orphan}
 use Rattle.hnodes.proofs.tree.Tree.insert_before.Goals as goal
 
 pub detach-requires-clause-neighbours : goal.detach-requires-clause-neighbours

@@ -1,6 +1,5 @@
 use Rattle.hnodes.proofs.Names.{given_is, rules}
-use Rattle.hnodes.proofs.Opened.{opened, grew, edited}
-use Rattle.hnodes.proofs.Fresh.{added, makes, makes_nothing}
+use Rattle.hnodes.proofs.Opened.{opened, grew, edited, added, makes, makes_nothing}
 use Rattle.hnodes.proofs.tree.Tree.make.Goals as goal
 
 pub invariant_of-self : goal.invariant_of-self

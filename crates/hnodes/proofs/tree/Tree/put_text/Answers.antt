@@ -1,5 +1,5 @@
 use Rattle.hnodes.proofs.Names.{refl, sym, ◌∙◌, length, arith, eqb-true, eqb-false, text}
-use Rattle.hnodes.proofs.Fresh.{place-made}
+use Rattle.hnodes.proofs.Opened.{place-made}
 use Rattle.hnodes.proofs.Runs.{put-nothing, put-joins, put-makes}
 use Rattle.hnodes.proofs.tree.Tree.put_text.Goals as goal
 

@@ -1,4 +1,4 @@
-use Rattle.hnodes.proofs.Lends.{lent}
+use Rattle.hnodes.proofs.Opened.{lent}
 use Rattle.hnodes.proofs.tree.Tree.row.Goals as goal
 
 pub returns : goal.returns

@@ -1,6 +1,6 @@
 use Rattle.hnodes.proofs.Names.{◌≡◌, ◌<◌, [], ◌++◌, string_bytes, sym, ◌∙◌, ap, unwrap_or, append_assoc, append-nil, All-head, flat_map}
 use Rattle.std.proofs.lemmas.List.Elements.{All-same, All-rest}
-use Rattle.hnodes.proofs.TextOrder.{text_at, texts-order}
+use Rattle.hnodes.proofs.Siblings.{text_at, texts-order}
 use Rattle.hnodes.proofs.tree.Tree.text_content.Goals as goal
 
 pub loop-node-init : goal.loop-node-init

@@ -1,5 +1,5 @@
 use Rattle.hnodes.proofs.Names.{◌≡◌, ◌<◌, ◌++◌, string_bytes, flat_map, All, children_of, forest_texts}
-use Rattle.hnodes.proofs.TextOrder.{text_at}
+use Rattle.hnodes.proofs.Siblings.{text_at}
 use Rattle.hnodes.proofs.tree.Tree.text_content.Given as goal
 
 abbrev pub invariant-loop-node : goal.invariant-loop-node

@@ -3,8 +3,8 @@ use Rattle.std.specs.List.Sorted.{IsPermutation}
 use Rattle.std.proofs.lemmas.Fn.{always_returns_same}
 use Rattle.std.proofs.lemmas.List.Sorted.{IsNonDecreasingBy-from_sort}
 use Rattle.std.specs.Prelude.{ltb}
-use Rattle.hnodes.proofs.Differing.{differ-is, rising}
-use Rattle.hnodes.proofs.attributes.many_differ.Goals as goal
+use Rattle.hnodes.proofs.Indexed.{differ-is, rising}
+use Rattle.hnodes.proofs.attributes.differ.Goals as goal
 
 pub returns : goal.returns
 returns c =

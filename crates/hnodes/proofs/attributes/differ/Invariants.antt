@@ -1,5 +1,5 @@
 use Rattle.hnodes.proofs.Names.{◌≡◌, ◌++◌, names_of}
-use Rattle.hnodes.proofs.attributes.many_differ.Given as goal
+use Rattle.hnodes.proofs.attributes.differ.Given as goal
 
 abbrev pub invariant-loop-name : goal.invariant-loop-name
 invariant-loop-name l =
