@@ -1,15 +1,25 @@
-//! What a run collects.
+//! What a run collects, and parse errors in their order.
 
-ghost use Rattle.std.specs.Prelude.{◌≡◌, [], MatchResult};
+ghost use Rattle.std.specs.Prelude.{◌≡◌, [], MatchResult, OnOk};
+ghost use Rattle.std.specs.List.Sorted.{IsPermutation, IsSorted};
+ghost use Rattle.hparse.specs.Answer.{error_cmp};
 ghost use Rattle.hparse.specs.Vocabulary.{Memory, IsRunOf};
 
-use crate::errors::sort_errors;
 use crate::token_run::TokenRun;
 use hmarkup::ErrorSink;
 use htoken::{Token, TokenSink};
 use names::{Names, ParseError, Refusal};
-use std::alloc::Global;
+use std::alloc::{AllocError, Global};
 use std::mem;
+
+/// Sorts errors by their places, and at one place by their codes.
+pub fn sort_errors(errors: &mut Vec<ParseError>) -> Result<(), AllocError>
+    ensures permutation { OnOk result (IsPermutation errors.old.items errors.new.items) }
+    ensures sorted { OnOk result (IsSorted error_cmp errors.new.items) }
+{
+    errors.sort_by_key(|error| (error.at, error.code.rank()))?;
+    Ok(())
+}
 
 /// The tokens and the parse errors so far, each in the order in which they came.
 #[derive(Drop)]

@@ -3,11 +3,9 @@
 #![tactic(auto)]
 
 mod builder_with_origins;
-mod by_text;
 mod collect;
 pub mod context;
 pub mod document;
-mod errors;
 mod feeding;
 pub mod options;
 pub mod origins;
@@ -19,7 +17,6 @@ mod reading;
 pub mod source;
 pub mod token_run;
 
-pub use by_text::AttributeTexts;
 pub use charref::Table;
 pub use context::is_context;
 pub use document::tokens;
@@ -27,6 +24,7 @@ pub use hmarkup::Quirks;
 pub use hmodes::Limits;
 pub use options::Options;
 pub use origins::Origin;
+pub use page_text::AttributeTexts;
 pub use parsed::Parsed;
 pub use parser::{Parser, parse_reader};
 pub use reader::read_into;

@@ -4,8 +4,8 @@ ghost use Rattle.std.specs.Prelude.{◌≡◌, ◌<◌, ◌⊎◌, ℕ, List, []
 ghost use Rattle.hparse.specs.Vocabulary.{again_laid, Refused, BadContext, Memory, ParseCase, ParseOptions, document, fragment, is_context, ReadsInput, AnswersParse, FeedsParser, IsUnfed, HasParsed, IsBuilt, IsMadeOf, ShowsParse, options_of, IsUnrefused};
 
 use crate::builder_with_origins::BuilderWithOrigins;
+use crate::collect::sort_errors;
 use crate::context::is_context;
-use crate::errors::sort_errors;
 use crate::options::Options;
 use crate::origins::{Origin, lay_again};
 use crate::parsed::Parsed;
