@@ -1,5 +1,6 @@
 -- What a builder has been handed, as steps of the rules.
 use Rattle.hparse.proofs.Names.{◌≡◌, List, [], ◌∷◌, ◌++◌, map, sym, ap, ◌∙◌, subst, Option, None, Result, Ok, Err, append-nil, append_assoc, inl, inr, ◌⊎◌, ParseError, Refusal, Memory, Hands, Item, ItemToken, ItemError, gives_item, numbers, Goes, Refused, Steps, and, token_of, token_at, Building, TakesToken, tokens_handed, errors_handed}
+use Rattle.hparse.proofs.Handing.{or_then}
 use Rattle.std.specs.Prelude.{MatchOption}
 use Rattle.hmodes.specs.Step.{Step, none, refused}
 use Rattle.htoken.specs.Token.{Handed, token_in}
@@ -52,16 +53,10 @@ pub refused_by_rules : (old new : Building) (items : List Item) (e : Refusal) �
 refused_by_rules old new [] e is h = let never = h.0 in absurd cc
 refused_by_rules old new (ItemToken t ∷ items) e is (Ok u, next, given, rest) =
     let took = takes_on t old next (Ok u) is given in
-    elim (refused_by_rules next new items e took.refused rest) [
-      | inl why ↦ inl why
-      | inr steps ↦ inr (and took.step steps)
-    ]
+    or_then (refused_by_rules next new items e took.refused rest) (λ steps. inr (and took.step steps))
 refused_by_rules old new (ItemError f ∷ items) e is (Ok u, next, given, rest) =
     let took : next ≡ record old { tokenizer_errors = old.tokenizer_errors ++ f ∷ [] } = tells f old next (Ok u) is given in
-    elim (refused_by_rules next new items e (ap (λ (b : Building). b.refused) took ∙ is) rest) [
-      | inl why ↦ inl why
-      | inr steps ↦ inr (subst (λ (b : Building). Steps numbers (map placed_number (tokens_handed items)) b.state (Refused e)) took steps)
-    ]
+    or_then (refused_by_rules next new items e (ap (λ (b : Building). b.refused) took ∙ is) rest) (λ steps. inr (subst (λ (b : Building). Steps numbers (map placed_number (tokens_handed items)) b.state (Refused e)) took steps))
 refused_by_rules old new (ItemToken t ∷ items) e is (Err r, next, given, rest) =
     let took = takes_on t old next (Err r) is given in
     let same : r ≡ e = let it = rest.0 in cc in

@@ -1,17 +1,21 @@
 -- What a sink has been handed, and what it is handed after that.
-use Rattle.hparse.proofs.Names.{◌≡◌, List, [], ◌∷◌, ◌++◌, sym, refl, ap, subst, Result, Ok, IsPermutation, IsPermutation-append_left, IsPermutation-refl, IsPermutation-trans, ParseError, Refusal, Texts, Grows, grows_not, grows_on, Token, Tok, Item, ItemToken, ItemError, Event, Reports, tokens_in, errors_in, HandsEvents, Began, WasHanded, tokens_handed, errors_handed, TokensMean}
+use Rattle.hparse.proofs.Names.{◌≡◌, List, [], ◌∷◌, ◌++◌, sym, refl, ap, subst, Result, Ok, IsPermutation, IsPermutation-append_left, IsPermutation-refl, IsPermutation-trans, ParseError, Refusal, Texts, Grows, grows_not, grows_on, Token, Tok, Item, ItemToken, ItemError, Event, Reports, tokens_in, errors_in, HandsEvents, Began, WasHanded, tokens_handed, errors_handed, TokensMean, inl, inr, ◌⊎◌}
 use Rattle.names.proofs.Handing.{Hands-append}
 use Rattle.htoken.specs.Token.{Alone, Gives, Handed, HandedMeans, Mean, WithNames}
 use Rattle.hparse.specs.Input.{ItemsMean}
 use Rattle.htoken.proofs.Fronts.{handed_means, token_kept}
+
+-- one of two, or what follows from the other
+pub or_then : {A B C : Type 0} → A ⊎ B → (B → A ⊎ C) → A ⊎ C
+or_then (inl a) f = inl a
+or_then (inr b) f = f b
 
 module _ (old new : Texts) (grows : Grows old new) where
   -- tokens stand for the same ones when the table has grown
   pub tokens_kept : (ts : List Token) (ks : List Tok) → TokensMean old ts ks → TokensMean new ts ks
   tokens_kept [] [] h = tt
   tokens_kept (t ∷ ts) (k ∷ ks) h = (token_kept old new grows t k h.0, tokens_kept ts ks h.1)
-  tokens_kept [] (k ∷ ks) h = absurd h
-  tokens_kept (t ∷ ts) [] h = absurd h
+  tokens_kept _ _ h = absurd h
 
 -- what items stand for, where the table has grown, and others come after them
 handed_kept : (old new : Texts) → Grows old new → (t : Handed) (tok : Tok) → HandedMeans old t tok → HandedMeans new t tok
@@ -22,16 +26,14 @@ items_more : (old new : Texts) → Grows old new → (xs ys : List Item) (ks ls 
 items_more old new grows [] ys [] ls h k = k
 items_more old new grows (ItemToken t ∷ xs) ys (x ∷ ks) ls h k = (handed_kept old new grows t x h.0, items_more old new grows xs ys ks ls h.1 k)
 items_more old new grows (ItemError e ∷ xs) ys ks ls h k = items_more old new grows xs ys ks ls h k
-items_more old new grows [] ys (x ∷ ks) ls h k = absurd h
-items_more old new grows (ItemToken t ∷ xs) ys [] ls h k = absurd h
+items_more old new grows _ ys _ ls h k = absurd h
 
 -- their tokens by themselves
 pub tokens_mean : (names : Texts) (items : List Item) (tokens : List Tok) → ItemsMean names items tokens → TokensMean names (tokens_handed items) tokens
 tokens_mean names [] [] h = tt
 tokens_mean names (ItemToken t ∷ items) (x ∷ tokens) h = (handed_means names t x h.0, tokens_mean names items tokens h.1)
 tokens_mean names (ItemError e ∷ items) tokens h = tokens_mean names items tokens h
-tokens_mean names [] (x ∷ tokens) h = absurd h
-tokens_mean names (ItemToken t ∷ items) [] h = absurd h
+tokens_mean names _ _ h = absurd h
 
 pub errors_handed-append : (xs ys : List Item) → errors_handed (xs ++ ys) ≡ errors_handed xs ++ errors_handed ys
 errors_handed-append [] ys = refl

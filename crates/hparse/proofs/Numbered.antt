@@ -24,8 +24,7 @@ module _ (names : Texts) (are : AreNames names) where
   attributes_mapped (a ∷ attrs) (t ∷ meant) h =
       (λ i. (spells a.name t.0 h.0 i, h.1 i) ∷ map (mapped_attribute spell) (map attribute_of attrs))
       ∙ ap (λ (x : List (List ℕ × List ℕ)). t ∷ x) (attributes_mapped attrs meant h.2)
-  attributes_mapped [] (t ∷ meant) h = absurd h
-  attributes_mapped (a ∷ attrs) [] h = absurd h
+  attributes_mapped _ _ h = absurd h
 
   token_mapped : (t : Given) (tok : Tok) → TokenMeans names t tok → mapped_placed spell (placed_number t) ≡ token_placed tok
   token_mapped (code.Doctype doctype at) tok h = sym (ap token_placed h)
@@ -41,8 +40,7 @@ module _ (names : Texts) (are : AreNames names) where
   tokens_mapped [] [] h = refl
   tokens_mapped (t ∷ ts) (k ∷ ks) h =
       (λ i. token_mapped t k h.0 i ∷ map (mapped_placed spell) (map placed_number ts)) ∙ ap (λ (x : List (PlacedToken (List ℕ))). token_placed k ∷ x) (tokens_mapped ts ks h.1)
-  tokens_mapped [] (k ∷ ks) h = absurd h
-  tokens_mapped (t ∷ ts) [] h = absurd h
+  tokens_mapped _ _ h = absurd h
 
   agree : Agree numbers texts spell
   agree = numbers-agree names are

@@ -1,5 +1,6 @@
 -- What one piece more does to a parser, and what the input's end does.
 use Rattle.hparse.proofs.Names.{◌≡◌, ℕ, List, ◌++◌, refl, sym, ap, subst, Option, None, option_map, Result, Ok, Err, inl, inr, ◌⊎◌, MatchResult, Refusal, Memory, Texts, Grows, AreNames, Origin, Parsed, Parser, BuilderWithOrigins, Reading, HasRead, FeedsPiece, piece_refused, piece_read, EndsInput, IsRefusedFor, IsTaken, ParseCase, ParseOptions, Parses, manner, takes_item_with_origins, HasParsed, AnswersParse, TellsPlaces}
+use Rattle.hparse.proofs.Handing.{or_then}
 use Rattle.hparse.specs.Parsing.{FeedsParser, feed_ran_out, feed_refused, feed_read, IsBuilt, ShowsParse, parse_ran_out, parse_answered}
 use Rattle.hparse.proofs.Built.{became}
 use Rattle.hparse.proofs.Pieces.{all_or_memory}
@@ -26,10 +27,7 @@ module _ (opts : ParseOptions) (parse_case : ParseCase) (bytes : List ℕ) (old 
 
   module _ (reading : Reading BuilderWithOrigins) (later : Texts) (grows : Grows reading.feeding.names later) (are : AreNames later) (e : Refusal) where
     refused : (all : List ℕ) → IsRefusedFor takes_item_with_origins (manner opts parse_case) h.began all reading.feeding.names reading.feeding.sink e → (e ≡ Memory) ⊎ Parses opts parse_case all (Err e)
-    refused all r = elim (refused_inner reading.feeding.names h.began reading.feeding.sink (manner opts parse_case) all e r) [
-      | inl why ↦ inl why
-      | inr by ↦ parses_refused opts parse_case (inner h.began) all reading.feeding.names reading.feeding.sink.builder h.unrefused h.begins later grows are e by
-    ]
+    refused all r = or_then (refused_inner reading.feeding.names h.began reading.feeding.sink (manner opts parse_case) all e r) (λ by. parses_refused opts parse_case (inner h.began) all reading.feeding.names reading.feeding.sink.builder h.unrefused h.begins later grows are e by)
 
     -- a piece that was refused
     pub feeds_refused : (piece : List ℕ) (new : Parser) → FeedsPiece takes_item_with_origins (manner opts parse_case) h.began (bytes ++ piece) (Err e) reading → FeedsParser opts parse_case (bytes ++ piece) (Err e) new

@@ -1,5 +1,6 @@
 -- What a builder that keeps how nodes are made has been handed: what the builder in it was, and how they were made.
 use Rattle.hparse.proofs.Names.{◌≡◌, ℕ, ◌+◌, ◌-◌, length, Bool, true, false, List, [], ◌∷◌, ◌++◌, map, sym, refl, ap, ◌∙◌, subst, Option, Some, None, Result, Ok, Err, inl, inr, ◌⊎◌, option_map, ParseError, Refusal, Memory, Texts, Hands, input_errors, run_tokens, Tok, Item, ItemToken, ItemError, numbers, Goes, Building, TakesToken, mapped_placed, mapped_state, PlacedToken, State, end, start, BuilderWithOrigins, Manner, Began, WasHanded, reads_in, tokens_handed, IsRefusedFor, by_sink, by_tag, by_bytes, by_memory, IsTaken, takes_item_with_origins, TakesTokenWithOrigins}
+use Rattle.hparse.proofs.Handing.{or_then}
 use Rattle.std.proofs.Common.{not}
 use Rattle.std.specs.Prelude.{is_some, ◌&&◌, ◌==◌}
 use Rattle.std.specs.List.{range_with_len}
@@ -31,14 +32,8 @@ handed_on old new (x ∷ items) (Err e, next, given, rest) = let never = rest.0 
 -- and refused the same, unless memory ran out
 pub refused_on : (old new : BuilderWithOrigins) (items : List Item) (e : Refusal) → Hands takes_item_with_origins old items (Err e) new → (e ≡ Memory) ⊎ Hands builds old.builder items (Err e) new.builder
 refused_on old new [] e h = let never = h.0 in absurd cc
-refused_on old new (ItemToken t ∷ items) e (Ok u, next, given, rest) = elim (refused_on next new items e rest) [
-  | inl why ↦ inl why
-  | inr on ↦ inr (Ok u, next.builder, given.0, on)
-]
-refused_on old new (ItemError f ∷ items) e (Ok u, next, given, rest) = elim (refused_on next new items e rest) [
-  | inl why ↦ inl why
-  | inr on ↦ inr (Ok u, next.builder, given.0, on)
-]
+refused_on old new (ItemToken t ∷ items) e (Ok u, next, given, rest) = or_then (refused_on next new items e rest) (λ on. inr (Ok u, next.builder, given.0, on))
+refused_on old new (ItemError f ∷ items) e (Ok u, next, given, rest) = or_then (refused_on next new items e rest) (λ on. inr (Ok u, next.builder, given.0, on))
 refused_on old new (ItemToken t ∷ items) e (Err r, next, given, rest) =
     let same : Err e ≡ Err r = rest.0 in
     let alike : e ≡ r = cc in
@@ -58,10 +53,7 @@ module _ (names : Texts) (began : Began BuilderWithOrigins) (now : BuilderWithOr
 
   module _ (m : Manner) (bytes : List ℕ) where
     pub refused_inner : (e : Refusal) → IsRefusedFor takes_item_with_origins m began bytes names now e → (e ≡ Memory) ⊎ IsRefusedFor builds m (inner began) bytes names now.builder e
-    refused_inner e (by_sink refusal events errors h front) = elim (refused_on began.sink now h.items e h.hands) [
-      | inl why ↦ inl why
-      | inr on ↦ inr (by_sink e events errors (record { grows = h.grows; items = h.items; hands = on; items_mean = h.items_mean; errors_are = h.errors_are }) front)
-    ]
+    refused_inner e (by_sink refusal events errors h front) = or_then (refused_on began.sink now h.items e h.hands) (λ on. inr (by_sink e events errors (record { grows = h.grows; items = h.items; hands = on; items_mean = h.items_mean; errors_are = h.errors_are }) front))
     refused_inner e (by_tag name at tokens errors h refused) = inr (by_tag name at tokens errors (handed_inner tokens errors h) refused)
     refused_inner e (by_memory events errors h front) = inl refl
     refused_inner e (by_bytes refusal tokens errors handed h read is) = inr (by_bytes refusal tokens errors handed (handed_inner tokens handed h) read is)

@@ -8,7 +8,7 @@ use Rattle.hadopt.specs.Mapped.{outcome_map}
 use Rattle.hparse.specs.Parse.{refused_token, refused_tag, refused_bytes, accepted, root_of}
 use Rattle.hparse.specs.Parsing.{IsMadeOf, places_in}
 use Rattle.hparse.proofs.Built.{Became, became, builds, refused_by_rules}
-use Rattle.hparse.proofs.Handing.{tokens_kept, tokens_mean}
+use Rattle.hparse.proofs.Handing.{tokens_kept, tokens_mean, or_then}
 use Rattle.hparse.proofs.OfNames.{within, tokens_of_table, children_are_of}
 use Rattle.hmodes.proofs.OfTable.{document-of, fragment-of}
 use Rattle.hparse.proofs.Numbered.{placed_number, tokens_mapped, fragment_mapped}
@@ -43,10 +43,7 @@ module _ (opts : ParseOptions) (parse_case : ParseCase) (began : Began Building)
 
   -- a refusal, but for want of memory
   pub parses_refused : (e : Refusal) → IsRefusedFor builds (manner opts parse_case) began bytes names now e → (e ≡ Memory) ⊎ Parses opts parse_case bytes (Err e)
-  parses_refused e (by_sink refusal events errors h front) = elim (refused_by_rules began.sink now h.items e unrefused h.hands) [
-    | inl why ↦ inl why
-    | inr steps ↦ inr (refused_token e events front (in_texts h.grows (tokens_handed h.items) (tokens_in events) (Refused e) (tokens_mean names h.items (tokens_in events) h.items_mean) steps))
-  ]
+  parses_refused e (by_sink refusal events errors h front) = or_then (refused_by_rules began.sink now h.items e unrefused h.hands) (λ steps. inr (refused_token e events front (in_texts h.grows (tokens_handed h.items) (tokens_in events) (Refused e) (tokens_mean names h.items (tokens_in events) h.items_mean) steps)))
   parses_refused e (by_tag name at tokens errors h refused) = inr (refused_tag name at tokens (mapped_state spell now.state) refused (gone tokens errors h))
   parses_refused e (by_memory events errors h front) = inl refl
   parses_refused e (by_bytes refusal tokens errors handed h read is) = inr (refused_bytes e errors (mapped_state spell now.state) (record { tokens = tokens; read = read; steps = gone tokens handed h }) is)
