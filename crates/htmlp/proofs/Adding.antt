@@ -1,13 +1,15 @@
 -- What one more argument or command makes of a command line, and all of a list.
-use Rattle.htmlp.proofs.Names.{◌≡◌, ◌<◌, ◌+◌, ◌∙◌, ℕ, List, ◌∷◌, Result, Ok, Err, length, drop, get_or, map, sym, ap, ap₂, refl, false, app_of, with_rule, Command, fields_of, choice_rule, named_reads, with_commands, with_rules}
-use Rattle.std.proofs.Common.{◌≤◌, IfOk}
+use Rattle.htmlp.proofs.Names.{◌≡◌, ◌<◌, ◌+◌, ◌∙◌, ℕ, List, ◌∷◌, Bor, Text, Result, Ok, Err, length, drop, get_or, map, sym, ap, ap₂, refl, false, app_of, with_rule, Command, fields_of, choice_rule, named_reads, with_commands, with_rules}
+use Rattle.std.proofs.Common.{◌≤◌, Bool, IfOk}
 use Rattle.std.specs.declared.alloc.AllocError.{AllocError}
 use Rattle.std.proofs.lemmas.List.{at_drop_more, at_drop_all}
 use Rattle.clap.specs.Words.{AddsArg, AddsSubcommand, App, Rule, rule_of, with_subcommand}
 use Rattle.clap.specs.declared.builder.arg.Arg.{Arg}
-use Rattle.htmlp.specs.declared.commands.Choice.{Choice}
 use Rattle.htmlp.specs.declared.commands.CommandEntry.{CommandEntry}
 use Rattle.htmlp.specs.Line.{command_app}
+
+abbrev Choice : Type 0
+Choice = Bor Text × Bor Text × Bor Text
 
 pub one_more : (old new : Command) (arg : Arg) (app : App) (rule : Rule) → AddsArg old arg new → arg.global ≡ false → app_of old ≡ app → rule_of arg ≡ rule
     → app_of new ≡ with_rule app rule
@@ -41,12 +43,12 @@ pub next_command : (entries : List CommandEntry) (i : ℕ) (d : CommandEntry) (o
     → with_commands (map named_reads (drop (i + 1) entries)) new ≡ all
 next_command = next (λ entries. with_commands (map named_reads entries)) (λ app entry. with_subcommand app (command_app (named_reads entry)).top) (λ entry entries app. refl)
 
-pub next_choice : (choices : List Choice) (i : ℕ) (d : Choice) (old new all : App) → i < length choices → new ≡ with_rule old (choice_rule (get_or choices i d))
-    → with_rules (map choice_rule (drop i choices)) old ≡ all → with_rules (map choice_rule (drop (i + 1) choices)) new ≡ all
-next_choice = next (λ choices. with_rules (map choice_rule choices)) (λ app choice. with_rule app (choice_rule choice)) (λ choice choices app. refl)
+pub next_choice : (required : Bool) (choices : List Choice) (i : ℕ) (d : Choice) (old new all : App) → i < length choices → new ≡ with_rule old (choice_rule required (get_or choices i d))
+    → with_rules (map (choice_rule required) (drop i choices)) old ≡ all → with_rules (map (choice_rule required) (drop (i + 1) choices)) new ≡ all
+next_choice required = next (λ choices. with_rules (map (choice_rule required) choices)) (λ app choice. with_rule app (choice_rule required choice)) (λ choice choices app. refl)
 
 pub all_commands : (entries : List CommandEntry) (i : ℕ) (app all : App) → length entries ≤ i → with_commands (map named_reads (drop i entries)) app ≡ all → app ≡ all
 all_commands entries i app all past is = sym (at_drop_all (λ left. with_commands (map named_reads left) app) entries i past) ∙ is
 
-pub all_choices : (choices : List Choice) (i : ℕ) (app all : App) → length choices ≤ i → with_rules (map choice_rule (drop i choices)) app ≡ all → app ≡ all
-all_choices choices i app all past is = sym (at_drop_all (λ left. with_rules (map choice_rule left) app) choices i past) ∙ is
+pub all_choices : (required : Bool) (choices : List Choice) (i : ℕ) (app all : App) → length choices ≤ i → with_rules (map (choice_rule required) (drop i choices)) app ≡ all → app ≡ all
+all_choices required choices i app all past is = sym (at_drop_all (λ left. with_rules (map (choice_rule required) left) app) choices i past) ∙ is

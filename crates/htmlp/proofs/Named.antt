@@ -10,13 +10,13 @@ use Rattle.hwrite.specs.Context.{AllowsContext}
 use Rattle.htmlp.specs.Fault.{IsLimitFault}
 use Rattle.htmlp.specs.declared.fault.Fault.TheVariants.{Limit}
 use Rattle.htmlp.specs.declared.numeric.Numeric.TheVariants.{Nodes, Open}
-use Rattle.htmlp.specs.Numeric.{IsWithin}
-use Rattle.htmlp.specs.Program.{FindsTable, FirstFault, no_table, no_quirks, no_limits, no_context, TellsOptions, ParseOptions, limits_of}
+use Rattle.htmlp.specs.Numeric.{IsInRange}
+use Rattle.htmlp.specs.Program.{FindsTable, FirstFault, no_table, no_quirks, no_limits, no_context, TellsOptions, CommandOptions, limits_of}
 
 abbrev name_of : Option (Bor (List ℕ)) → Option Text
 name_of = option_map (λ s. s.now)
 
-abbrev told_with : Line → Entities → List QuirkLine → Bounds → ParseOptions
+abbrev told_with : Line → Entities → List QuirkLine → Bounds → CommandOptions
 told_with line table quirks limits = record {
   task = line.command.task;
   context = name_of line.command.context;
@@ -30,7 +30,7 @@ limits_from nodes depth = record { input = MAX_INPUT; tree = record { nodes = no
 
 -- limits that are refused, by the first that is out of its range
 pub limit_fault : (nodes depth : ℕ) (bad : Numeric) → (AreLimits (limits_from nodes depth) → ⊥)
-    → ((IsWithin (range_of Nodes) nodes → ⊥) × (bad ≡ Nodes)) ⊎ (IsWithin (range_of Nodes) nodes × (bad ≡ Open)) → IsLimitFault (limits_from nodes depth).tree (Limit bad)
+    → ((IsInRange (range_of Nodes) nodes → ⊥) × (bad ≡ Nodes)) ⊎ (IsInRange (range_of Nodes) nodes × (bad ≡ Open)) → IsLimitFault (limits_from nodes depth).tree (Limit bad)
 limit_fault nodes depth bad none (inl (out, is)) = inl (out, ap Limit is)
 limit_fault nodes depth bad none (inr (within, is)) = inr (
   within,

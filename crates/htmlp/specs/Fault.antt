@@ -10,7 +10,7 @@ use Rattle.hmodes.specs.Beginning.{Limits}
 use Rattle.htmlp.specs.declared.fault.Fault.{Fault}
 use Rattle.htmlp.specs.declared.fault.Fault.TheVariants.{Limit, Line, Memory, Refused}
 use Rattle.htmlp.specs.declared.numeric.Numeric.TheVariants.{Nodes, Open}
-use Rattle.htmlp.specs.Numeric.{IsWithin, range_of}
+use Rattle.htmlp.specs.Numeric.{IsInRange, range_of}
 
 -- the fault of an error of the kind, as `clap` gives it
 abbrev pub fault_by_kind : ErrorKind → Error → Fault
@@ -32,5 +32,5 @@ IsUnread name why = (why ≡ Memory) ⊎ IsRefusalOf (Some name) Read why
 
 -- the first of the limits that is out of its range
 abbrev pub IsLimitFault : Limits → Fault → Type 0
-IsLimitFault limits why = ((IsWithin (range_of Nodes) limits.nodes → ⊥) × (why ≡ Limit Nodes))
-    ⊎ (IsWithin (range_of Nodes) limits.nodes × (IsWithin (range_of Open) limits.depth → ⊥) × (why ≡ Limit Open))
+IsLimitFault limits why = ((IsInRange (range_of Nodes) limits.nodes → ⊥) × (why ≡ Limit Nodes))
+    ⊎ (IsInRange (range_of Nodes) limits.nodes × (IsInRange (range_of Open) limits.depth → ⊥) × (why ≡ Limit Open))

@@ -28,5 +28,5 @@ accepted Nodes = (0, 2 ^ 64 - 1)
 accepted Open = (0, 2 ^ 64 - 1)
 accepted option = range_of option
 
-abbrev pub IsWithin : ℕ × ℕ → ℕ → Type 0
-IsWithin range number = (range.0 ≤ number) × (number ≤ range.1)
+abbrev pub IsInRange : ℕ × ℕ → ℕ → Type 0
+IsInRange range number = (range.0 ≤ number) × (number ≤ range.1)

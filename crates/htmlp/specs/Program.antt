@@ -17,7 +17,7 @@ use Rattle.hserialize.specs.Output.{WritesText}
 use Rattle.hwrite.specs.Calls.{EndsWith}
 use Rattle.hwrite.specs.declared.command.Command.{Command}
 use Rattle.hparse.specs.declared.options.Options.{Options}
-use Rattle.hparse.specs.Parse.{ParseOptions as Settings}
+use Rattle.hparse.specs.Parse.{ParseOptions}
 use Rattle.hparse.specs.Parsing.{options_of}
 use Rattle.hwrite.specs.Context.{AllowsContext}
 use Rattle.hwrite.specs.Running.{RunsTask}
@@ -34,14 +34,14 @@ IsOutcome name (Ok _) outcome = outcome ≡ Ok tt
 IsOutcome name (Err refusal) outcome = IsErrAnd outcome (IsRefusalOf name refusal)
 
 -- what the program is to do, with what
-pub record ParseOptions : Type 0 where
+pub record CommandOptions : Type 0 where
   pub task : Task
   pub context : Option Text
   pub escaping : Escaping
   pub piece : ℕ
-  pub settings : Settings
+  pub settings : ParseOptions
 
-abbrev pub told_of : Command → Options → ParseOptions
+abbrev pub told_of : Command → Options → CommandOptions
 told_of command options = record {
   task = command.task;
   context = option_map (λ s. s.now) command.context;
@@ -58,7 +58,7 @@ limits_of words = record {
 }
 
 -- The engine ran over an input of this name.
-abbrev pub AnswersInput : {S W : Type 0} → (S → Option (List ℕ)) → (S → ℕ) → (W → Option (List ℕ)) → (W → ℕ) → ParseOptions → Text → S → S → W → W
+abbrev pub AnswersInput : {S W : Type 0} → (S → Option (List ℕ)) → (S → ℕ) → (W → Option (List ℕ)) → (W → ℕ) → CommandOptions → Text → S → S → W → W
     → Result (Unit {0}) Fault
     → Type 0
 AnswersInput left reads written writes opts name source source' target target' outcome =
@@ -93,7 +93,7 @@ module _ {R : Type 0} (has_text : R → List ℕ → List ℕ → Type 0) (lacks
   FindsQuirks = FindsFile [] ReadsQuirks
 
   -- What the words say, where all that they name is found and accepted.
-  pub record TellsOptions (surroundings : R) (words : List Text) (opts : ParseOptions) : Type 0 where
+  pub record TellsOptions (surroundings : R) (words : List Text) (opts : CommandOptions) : Type 0 where
     pub task : task_of words ≡ Some opts.task
     pub context : opts.context ≡ option_value words (codes "in")
     pub allowed : AllowsContext opts.context
@@ -123,7 +123,7 @@ module _ {R F : Type 0} (opens : R → List ℕ → F → Type 0) (cannot_open :
     (failed_in_file : F → ℕ) where
   -- The engine ran over the file of this name, or that cannot be opened.
   pub data AnswersFile {W : Type 0} (written : W → Option (List ℕ)) (writes : W → ℕ)
-      (opts : ParseOptions) (surroundings : R) (name : List ℕ) (output output' : W)
+      (opts : CommandOptions) (surroundings : R) (name : List ℕ) (output output' : W)
       (outcome : Result (Unit {0}) Fault) : Type 0 where
     file_missing : cannot_open surroundings name → IsOutcome (Some name) (Err Read) outcome → output' ≡ output
         → AnswersFile written writes opts surroundings name output output' outcome
@@ -144,12 +144,12 @@ module _ {R F : Type 0} (opens : R → List ℕ → F → Type 0) (cannot_open :
       words_without : (why : Fault) → FirstFault has_text lacks_text surroundings words why → outcome ≡ Err why → input' ≡ input → output' ≡ output
           → AnswersWords surroundings words input input' output output' outcome
       -- they name a file
-      words_with_file : (opts : ParseOptions) (name : Text) → TellsOptions has_text lacks_text surroundings words opts
+      words_with_file : (opts : CommandOptions) (name : Text) → TellsOptions has_text lacks_text surroundings words opts
           → option_value words (codes "file") ≡ Some name
           → AnswersFile written writes opts surroundings name output output' outcome → input' ≡ input
           → AnswersWords surroundings words input input' output output' outcome
       -- they name none: the input is the standard input
-      words_without_file : (opts : ParseOptions) → TellsOptions has_text lacks_text surroundings words opts → option_value words (codes "file") ≡ None
+      words_without_file : (opts : CommandOptions) → TellsOptions has_text lacks_text surroundings words opts → option_value words (codes "file") ≡ None
           → AnswersInput left reads written writes opts (codes "standard input") input input' output output' outcome
           → AnswersWords surroundings words input input' output output' outcome
 

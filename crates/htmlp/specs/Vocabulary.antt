@@ -9,7 +9,7 @@ pub use Rattle.htmlp.specs.Line.{AreGood, FaultOf, IsNumber, IsNumberFault, Opti
 pub use Rattle.htmlp.specs.Line.{choice_rule, command_app, context_rules, escaping_of, explain_rule, file_rule, named_reads, number_or, program, task_of}
 pub use Rattle.htmlp.specs.Line.{option_value, with_commands, with_rules}
 pub use Rattle.htmlp.specs.Message.{message_text}
-pub use Rattle.htmlp.specs.Numeric.{IsWithin, accepted, numeric_name, range_of, range_text}
+pub use Rattle.htmlp.specs.Numeric.{IsInRange, accepted, numeric_name, range_of, range_text}
 pub use Rattle.htmlp.specs.Program.{ProgramAnswers, AnswersFile, AnswersInput, AnswersWords, EndsProgram, FindsQuirks, FindsTable, HasRun, IsExplained, WritesVersion}
 pub use Rattle.htmlp.specs.Program.{told_of}
 pub use Rattle.hwrite.specs.Calls.{EndsWith, WritesAll}

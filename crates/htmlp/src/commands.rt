@@ -28,13 +28,8 @@ pub struct CommandEntry {
     pub reads: Reads,
 }
 
-/// An option that has a value.
-pub struct Choice {
-    pub name: &'static str,
-    pub value: &'static str,
-    pub help: &'static str,
-    pub required: bool,
-}
+/// An option that has a value: its name, what its value is called, and its help.
+type Choice = (&'static str, &'static str, &'static str);
 
 /// The commands, in the order in which help lists them.
 static COMMANDS: [CommandEntry; 6] = [
@@ -77,71 +72,53 @@ static COMMANDS: [CommandEntry; 6] = [
 ];
 
 /// The option that names a fragment's context.
-const CONTEXT: Choice = Choice {
-    name: "in",
-    value: "NAME",
-    help: "The element in which the input stands",
-    required: false,
-};
+const CONTEXT: Choice = ("in", "NAME", "The element in which the input stands");
 
-/// What a command has that reads either.
+/// What a command has that may read a fragment.
 static EITHER: [Choice; 1] = [CONTEXT];
 
 /// The same, and the option that names a way of escaping.
 static WRITTEN: [Choice; 2] = [
     CONTEXT,
-    Choice {
-        name: "escape",
-        value: "N",
-        help: "Whether < and > stay in attribute values, 1, or are escaped, 2 [default: 1]",
-        required: false,
-    },
+    (
+        "escape",
+        "N",
+        "Whether < and > stay in attribute values, 1, or are escaped, 2 [default: 1]",
+    ),
 ];
-
-/// The option that names the context of a command that reads a fragment alone.
-static FRAGMENT: [Choice; 1] = [Choice {
-    required: true,
-    ..CONTEXT
-}];
 
 /// The options of each command.
 static EACH: [Choice; 6] = [
-    Choice {
-        name: "piece",
-        value: "N",
-        help: "Bytes fed at a time, 1 to 65536 [default: 65536]",
-        required: false,
-    },
-    Choice {
-        name: "entities",
-        value: "FILE",
-        help: "The table of character references [default: amp, lt, gt, quot, nbsp]",
-        required: false,
-    },
-    Choice {
-        name: "quirks",
-        value: "FILE",
-        help: "The list of quirky doctypes [default: an empty list]",
-        required: false,
-    },
-    Choice {
-        name: "bad-bytes",
-        value: "WORD",
-        help: "What becomes of bytes that are not UTF-8: refuse or replace [default: refuse]",
-        required: false,
-    },
-    Choice {
-        name: "nodes",
-        value: "N",
-        help: "The most nodes, 16 to 16777216 [default: 16777216]",
-        required: false,
-    },
-    Choice {
-        name: "open",
-        value: "N",
-        help: "The most open elements, 16 to 1048576 [default: 1048576]",
-        required: false,
-    },
+    (
+        "piece",
+        "N",
+        "Bytes fed at a time, 1 to 65536 [default: 65536]",
+    ),
+    (
+        "entities",
+        "FILE",
+        "The table of character references [default: amp, lt, gt, quot, nbsp]",
+    ),
+    (
+        "quirks",
+        "FILE",
+        "The list of quirky doctypes [default: an empty list]",
+    ),
+    (
+        "bad-bytes",
+        "WORD",
+        "What becomes of bytes that are not UTF-8: refuse or replace [default: refuse]",
+    ),
+    (
+        "nodes",
+        "N",
+        "The most nodes, 16 to 16777216 [default: 16777216]",
+    ),
+    (
+        "open",
+        "N",
+        "The most open elements, 16 to 1048576 [default: 1048576]",
+    ),
 ];
 
 /// The program's command line, as `clap` reads it.
@@ -186,8 +163,9 @@ fn command<'a>(alloc: Global, entry: &CommandEntry) -> Result<Command<'a>, Alloc
     ensures local { IfOk result (λ command. (fields_of command).has_globals ≡ false) }
 {
     let bare = bare_command(alloc, entry)?;
-    let chosen = with_choices(alloc, bare, choices(entry.reads))?;
-    with_choices(alloc, chosen, &EACH)?.arg(explain(alloc))
+    let (choices, required) = choices(entry.reads);
+    let chosen = with_choices(alloc, bare, choices, required)?;
+    with_choices(alloc, chosen, &EACH, false)?.arg(explain(alloc))
 }
 
 /// A command with its file, without options.
@@ -211,15 +189,15 @@ fn file<'a>(alloc: Global) -> Arg<'a>
         .help("The input [default: standard input]")
 }
 
-/// The options of a command by what it reads: that which names a fragment's context, and that of escaping.
-fn choices(reads: Reads) -> &'static [Choice]
-    ensures { map choice_rule result.now ≡ context_rules reads }
+/// The options of a command by what it reads, and whether they are required: that which names a fragment's context, and that of escaping.
+fn choices(reads: Reads) -> (&'static [Choice], bool)
+    ensures { map (choice_rule result.1) result.0.now ≡ context_rules reads }
 {
     match reads {
-        Reads::Document => &[],
-        Reads::Either => &EITHER,
-        Reads::Written => &WRITTEN,
-        Reads::Fragment => &FRAGMENT,
+        Reads::Document => (&[], false),
+        Reads::Either => (&EITHER, false),
+        Reads::Written => (&WRITTEN, false),
+        Reads::Fragment => (&EITHER, true),
     }
 }
 
@@ -228,28 +206,30 @@ fn with_choices<'a>(
     alloc: Global,
     command: Command<'a>,
     choices: &[Choice],
+    required: bool,
 ) -> Result<Command<'a>, AllocError>
     requires { (fields_of command).has_globals ≡ false }
-    ensures shape { IfOk result (λ new. app_of new ≡ with_rules (map choice_rule choices.now) (app_of command.entry)) }
+    ensures shape { IfOk result (λ new. app_of new ≡ with_rules (map (choice_rule required) choices.now) (app_of command.entry)) }
     ensures local { IfOk result (λ new. (fields_of new).has_globals ≡ false) }
 {
     let mut command = command;
     for choice in choices {
-        command = command.arg(option(alloc, choice))?;
+        command = command.arg(option(alloc, choice, required))?;
     }
     Ok(command)
 }
 
 /// An option.
-fn option<'a>(alloc: Global, choice: &Choice) -> Arg<'a>
-    ensures rule { rule_of result ≡ choice_rule choice.now }
+fn option<'a>(alloc: Global, choice: &Choice, required: bool) -> Arg<'a>
+    ensures rule { rule_of result ≡ choice_rule required choice.now }
     ensures local { result.global ≡ false }
 {
-    Arg::new(alloc, choice.name)
-        .long(choice.name)
-        .value_name(choice.value)
-        .help(choice.help)
-        .required(choice.required)
+    let (name, value, help) = *choice;
+    Arg::new(alloc, name)
+        .long(name)
+        .value_name(value)
+        .help(help)
+        .required(required)
 }
 
 /// The option that asks for a line that explains a fault.

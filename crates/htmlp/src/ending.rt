@@ -1,11 +1,11 @@
 //! How the program ends: its status, and its lines on standard error.
 
 ghost use Rattle.std.specs.Prelude.{◌≡◌, ◌∷◌, ◌++◌, [], IfSome, option_map};
-ghost use Rattle.htmlp.specs.Vocabulary.{EndsWith, WritesAll, ending_text, explained, fault_status, fault_text, ending_line, message_text, number_text, exit_status};
+ghost use Rattle.htmlp.specs.Vocabulary.{EndsWith, WritesAll, ending_text, fault_status, fault_text, ending_line, message_text, exit_status};
 
 use crate::fault::Fault;
 use crate::message::Message;
-use crate::parts::{write_part, write_parts};
+use crate::parts::write_parts;
 use crate::tip::WithoutTip;
 use hwrite::Target;
 use itoa::Buffer;
@@ -54,15 +54,8 @@ fn write_fault<W: Target>(target: &mut W, fault: &Fault, explains: bool) -> Resu
 {
     match fault {
         Fault::Line(_) => write!(WithoutTip(target), "{fault}").or(Err(Refusal::Write)),
-        _ => write_lines(target, fault.line(), explained(fault, explains)),
+        _ => write_lines(target, fault.line(), fault.explanation(explains)),
     }
-}
-
-/// The line that explains a fault, if it is to be explained.
-fn explained<'a>(fault: &Fault<'a>, explains: bool) -> Option<Message<'a>>
-    ensures { option_map message_text result ≡ explained explains fault.now }
-{
-    if explains { fault.explanation() } else { None }
 }
 
 fn write_lines<W: Target>(
@@ -86,19 +79,11 @@ fn write_line<W: Target>(target: &mut W, line: Message) -> Result<(), Refusal>
         (message_text line.entry ++ 10 ∷ []) result }
 {
     write_parts(target, &line.words)?;
-    write_number(target, line.number)?;
-    write_part(target, b"\n")
-}
-
-fn write_number<W: Target>(target: &mut W, number: Option<(&str, u64)>) -> Result<(), Refusal>
-    ensures { WritesAll (W.written target.old) (W.failed target.old) (W.written target.new) (W.failed target.new)
-        (number_text (option_map (λ p. (p.0.now, p.1)) number.entry)) result }
-{
-    match number {
+    match line.number {
         Some((word, number)) => {
             let mut digits = Buffer::new();
-            write_parts(target, &[" ", word, " ", digits.format(number)])
+            write_parts(target, &[" ", word, " ", digits.format(number), "\n"])
         }
-        None => Ok(()),
+        None => write_parts(target, &["\n"]),
     }
 }

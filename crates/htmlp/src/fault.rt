@@ -1,7 +1,7 @@
 //! Why the program ends without an answer, and what it says then.
 
 ghost use Rattle.std.specs.Prelude.{◌≡◌, ◌++◌, IfSome, None, codes, option_map};
-ghost use Rattle.htmlp.specs.Vocabulary.{around_name, detail_text, explanation, fault_line, message_text, name_line, numeric_name, number_line, number_text, range_text, refusal_line};
+ghost use Rattle.htmlp.specs.Vocabulary.{around_name, detail_text, explained, fault_line, message_text, name_line, numeric_name, number_line, number_text, range_text, refusal_line};
 ghost use Rattle.htmlp.specs.Fault.{fault_of_error};
 ghost use Rattle.htmlp.specs.declared.fault.Fault.TheVariants as fault;
 
@@ -59,10 +59,13 @@ impl<'a> Fault<'a> {
         }
     }
 
-    /// The line that explains it: it names what was refused, where the command line has a name of it.
-    pub fn explanation(&self) -> Option<Message<'a>>
-        ensures { option_map message_text result ≡ explanation self.now }
+    /// The line that explains it, if it is to be explained: it names what was refused, where the command line has a name of it.
+    pub fn explanation(&self, explains: bool) -> Option<Message<'a>>
+        ensures { option_map message_text result ≡ explained explains self.now }
     {
+        if !explains {
+            return None;
+        }
         match self {
             Fault::Limit(option) => Some(Message::of(
                 "htmlp: --",
@@ -151,13 +154,8 @@ fn name_line<'a>(around: Option<(&'a str, &'a str)>, name: Option<&'a str>) -> O
     ensures { option_map message_text result
         ≡ name_line (option_map (λ p. (p.0.now, p.1.now)) around.entry) (option_map (λ s. s.now) name.entry) }
 {
-    match around {
-        None => None,
-        Some((before, after)) => match name {
-            None => None,
-            Some(name) => Some(Message::of(before, name, after, "")),
-        },
-    }
+    let (before, after) = around?;
+    Some(Message::of(before, name?, after, ""))
 }
 
 impl From<AllocError> for Fault<'_> {

@@ -1,7 +1,7 @@
 //! The command line.
 
 ghost use Rattle.std.specs.Prelude.{◌≡◌, ◌<◌, ◌≤◌, [], true, codes, map, None, Some, string_bytes, IfOk, IfErr, OnOk, IsSome, MatchResult};
-ghost use Rattle.htmlp.specs.Vocabulary.{asks_explanation, fault_of, first_value, found_of, takes, task_named, bad_bytes_of, escaping_of, number_or, program, task_of, option_value, AreGood, FaultOf, IsNumber, IsNumberFault, OptionFault, SaysLine, accepted, numeric_name, IsWithin};
+ghost use Rattle.htmlp.specs.Vocabulary.{asks_explanation, fault_of, first_value, found_of, takes, task_named, bad_bytes_of, escaping_of, number_or, program, task_of, option_value, AreGood, FaultOf, IsNumber, IsNumberFault, OptionFault, SaysLine, accepted, numeric_name, IsInRange};
 ghost use Rattle.htmlp.specs.declared.fault.Fault.TheVariants as fault;
 
 use crate::commands::command_line;
@@ -90,13 +90,13 @@ fn escaping_of(number: u64) -> Escaping
 
 /// The number that the value of an option writes, if it is one that is read, or the default if the option has no value.
 fn number<'a>(found: &ArgMatches<'a>, option: Numeric, default: u64) -> Result<u64, Fault<'a>>
-    requires { IsWithin (accepted option) default }
+    requires { IsInRange (accepted option) default }
     ensures says { MatchResult result
         (λ number. IsNumber option (first_value (found_of found.now) (numeric_name option))
         × (number ≡ number_or default (first_value (found_of found.now) (numeric_name option))))
         (λ why. (IsNumber option (first_value (found_of found.now) (numeric_name option)) → ⊥)
         × IsNumberFault (first_value (found_of found.now)) option why) }
-    ensures in_range { IfOk result (IsWithin (accepted option)) }
+    ensures in_range { IfOk result (IsInRange (accepted option)) }
 {
     let (least, most) = option.accepted();
     match found.get_str(option.name()) {

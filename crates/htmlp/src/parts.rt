@@ -12,13 +12,7 @@ pub(crate) fn write_parts<W: Target>(target: &mut W, parts: &[&str]) -> Result<(
         (flat_map (λ p. p.now) parts.now) result }
 {
     for part in parts {
-        write_part(target, part.as_bytes())?;
+        write_all(target, part.as_bytes())?;
     }
     Ok(())
-}
-
-pub(crate) fn write_part<W: Target>(target: &mut W, part: &[u8]) -> Result<(), Refusal>
-    ensures { WritesAll (W.written target.old) (W.failed target.old) (W.written target.new) (W.failed target.new) part.now result }
-{
-    write_all(target, part)
 }

@@ -1,7 +1,7 @@
 //! The program: does what the words of its command line say.
 
 ghost use Rattle.std.specs.Prelude.{◌≡◌, ◌<◌, ◌⊎◌, List, map, option_map, MatchResult, Ok, Err, string_bytes};
-ghost use Rattle.htmlp.specs.Vocabulary.{Text, AreLimits, Bounds, AllowsContext, IsLimitFault, IsRefusalOf, task_of, option_value, SaysLine, range_of, IsWithin, AnswersFile, AnswersInput, AnswersWords, ProgramAnswers, EndsProgram, IsExplained, FindsQuirks, FindsTable, told_of};
+ghost use Rattle.htmlp.specs.Vocabulary.{Text, AreLimits, Bounds, IsLimitFault, task_of, option_value, SaysLine, range_of, IsInRange, AnswersInput, AnswersWords, ProgramAnswers, EndsProgram, IsExplained, FindsQuirks, FindsTable, told_of};
 
 use crate::ending::ending;
 use crate::fault::Fault;
@@ -65,20 +65,6 @@ fn answer<'a, R: Surroundings, S: Source, W: Target>(
     if asks_version(words) {
         return write_version(output);
     }
-    answer_words(surroundings, keys, words, input, output)
-}
-
-/// Does what these words say.
-fn answer_words<'a, R: Surroundings, S: Source, W: Target>(
-    surroundings: &R,
-    keys: Keys,
-    words: &'a [String],
-    input: &mut S,
-    output: &mut W,
-) -> Result<(), Fault<'a>>
-    ensures { AnswersWords R.opens R.cannot_open R.File.left R.File.failed R.has_text R.lacks_text S.left S.failed W.written W.failed surroundings.now
-        (map string_bytes words.now) input.old input.new output.old output.new result }
-{
     let line = line(surroundings.alloc(), words)?;
     answer_line(surroundings, keys, line, input, output)
 }
@@ -122,7 +108,15 @@ fn answer_with<'a, R: Surroundings, S: Source, W: Target>(
         words input.old input.new output.old output.new result }
 {
     let limits = limits(line.nodes, line.open)?;
-    accept_context(line.command.context)?;
+    match check_context(line.command.context) {
+        Ok(()) => {}
+        Err(refusal) => {
+            return Err(Fault::Refused {
+                refusal,
+                name: line.command.context,
+            });
+        }
+    }
     let options = Options {
         table,
         quirks,
@@ -131,16 +125,16 @@ fn answer_with<'a, R: Surroundings, S: Source, W: Target>(
         keys,
         places: false,
     };
+    let alloc = surroundings.alloc();
     match line.file {
-        Some(name) => answer_file(surroundings, line.command, &options, name, output),
-        None => answer_input(
-            surroundings.alloc(),
-            line.command,
-            &options,
-            STANDARD_INPUT,
-            input,
-            output,
-        ),
+        Some(name) => match surroundings.open(name) {
+            Some(mut file) => answer_input(alloc, line.command, &options, name, &mut file, output),
+            None => Err(Fault::Refused {
+                refusal: Refusal::Read,
+                name: Some(name),
+            }),
+        },
+        None => answer_input(alloc, line.command, &options, STANDARD_INPUT, input, output),
     }
 }
 
@@ -157,28 +151,14 @@ fn limits<'a>(nodes: u64, depth: u64) -> Result<Limits, Fault<'a>>
 
 /// The first limit that is out of its range, where one is.
 fn bad_limit(nodes: u64) -> Numeric
-    ensures { ((IsWithin (range_of Numeric.Nodes) nodes → ⊥) × (result ≡ Numeric.Nodes))
-        ⊎ (IsWithin (range_of Numeric.Nodes) nodes × (result ≡ Numeric.Open)) }
+    ensures { ((IsInRange (range_of Numeric.Nodes) nodes → ⊥) × (result ≡ Numeric.Nodes))
+        ⊎ (IsInRange (range_of Numeric.Nodes) nodes × (result ≡ Numeric.Open)) }
 {
     let (least, most) = Numeric::Nodes.range();
     if least <= nodes && nodes <= most {
         Numeric::Open
     } else {
         Numeric::Nodes
-    }
-}
-
-/// Accepts a context that there may be.
-fn accept_context(context: Option<&str>) -> Result<(), Fault<'_>>
-    ensures { MatchResult result (λ _. AllowsContext (option_map (λ s. s.now) context.entry))
-        (λ why. (AllowsContext (option_map (λ s. s.now) context.entry) → ⊥) × IsRefusalOf (option_map (λ s. s.now) context.entry) Refusal.BadContext why) }
-{
-    match check_context(context) {
-        Ok(()) => Ok(()),
-        Err(refusal) => Err(Fault::Refused {
-            refusal,
-            name: context,
-        }),
     }
 }
 
@@ -215,34 +195,6 @@ fn quirks<'a, R: Surroundings>(surroundings: &R, name: Option<&'a str>) -> Resul
                 Err(refusal) => Err(Fault::Refused { refusal, name }),
             }
         }
-    }
-}
-
-/// Runs the command over the file of this name.
-fn answer_file<'a, R: Surroundings, W: Target>(
-    surroundings: &R,
-    command: Command,
-    options: &Options,
-    name: &'a str,
-    output: &mut W,
-) -> Result<(), Fault<'a>>
-    requires piece { 0 < command.piece }
-    ensures { AnswersFile R.opens R.cannot_open R.File.left R.File.failed W.written W.failed (told_of command.entry options.now) surroundings.now name.now
-        output.old output.new result }
-{
-    match surroundings.open(name) {
-        Some(mut file) => answer_input(
-            surroundings.alloc(),
-            command,
-            options,
-            name,
-            &mut file,
-            output,
-        ),
-        None => Err(Fault::Refused {
-            refusal: Refusal::Read,
-            name: Some(name),
-        }),
     }
 }
 

@@ -8,7 +8,7 @@ pub returns-clause-shape : goal.returns-clause-shape
 returns-clause-shape c =
     let entry = c.args.entry.now in
     let chosen : app_of c.in_ok-chosen.chosen ≡ with_rules (context_rules entry.reads) (with_rule (new_app entry.name.now) file_rule) =
-    c.in_ok-chosen.ensures.shape ∙ ap₂ with_rules c.choices.ensures c.in_ok-bare.ensures.shape in
+    c.in_ok-chosen.ensures.shape ∙ ap₂ with_rules c.choices-required.ensures c.in_ok-bare.ensures.shape in
     one_more_of c.arg.result _ _ _ _ c.arg.ensures c.explain.ensures.local (c.in_ok-with_choices.ensures.shape ∙ ap (with_rules each_rules) chosen) c.explain.ensures.rule
 
 pub returns-clause-local : goal.returns-clause-local

@@ -12,4 +12,4 @@ pub returns-in_default : goal.returns-in_default
 returns-in_default g c =
     told (fault_line c.args.fault.now) (message_text c.line.result) _ (explained c.args.explains c.args.fault.now)
     (λ text. WritesAll (g.W.Target.written c.args.target.now) (g.W.Target.failed c.args.target.now) (g.W.Target.written c.write_lines.new.target)
-    (g.W.Target.failed c.write_lines.new.target) text c.write_lines.result) c.line.ensures c.explained.ensures c.write_lines.ensures
+    (g.W.Target.failed c.write_lines.new.target) text c.write_lines.result) c.line.ensures c.explanation.ensures c.write_lines.ensures

@@ -1,5 +1,5 @@
 -- The words, the number and the end.
-use Rattle.htmlp.proofs.Names.{List, ℕ, [], ◌∷◌, ◌++◌, Option, option_map, refl, sym, Bor, WritesAll-stops, WritesAll-then}
+use Rattle.htmlp.proofs.Names.{◌≡◌, ◌∙◌, List, ℕ, [], ◌∷◌, ◌++◌, Option, None, ap, codes, concat, option_map, refl, sym, Bor, WritesAll-stops, WritesAll-then}
 use Rattle.std.proofs.Common.{append_assoc}
 use Rattle.htmlp.proofs.AllParts.{all_parts}
 use Rattle.names.specs.RefusalText.{number_text}
@@ -11,22 +11,25 @@ number n = number_text (option_map (λ p. (p.0.now, p.1)) n)
 abbrev end : List ℕ
 end = 10 ∷ []
 
+-- what comes after the words
+after_words : (words : List ℕ) (n its : Option (Bor (List ℕ) × ℕ)) (rest : List ℕ) → its ≡ n → rest ≡ number n ++ end → words ++ rest ≡ (words ++ number its) ++ end
+after_words words n its rest same is = ap (λ l. words ++ l) (is ∙ ap (λ m. number m ++ end) (sym same)) ∙ sym (append_assoc words (number its) end)
+
+in_parts : (word digits : List ℕ) → concat (codes " " ∷ word ∷ codes " " ∷ digits ∷ end ∷ []) ≡ ((codes " " ++ word) ++ (codes " " ++ digits)) ++ end
+in_parts word digits = ap (λ l. 32 ∷ l) (sym (append_assoc word (32 ∷ digits) end))
+
 pub returns-in_err-write_parts : goal.returns-in_err-write_parts
 returns-in_err-write_parts g c =
     WritesAll-stops _ _ _ _ (all_parts c.args.line.words) (number c.args.line.number ++ end) _ c.in_err-write_parts.field-0.0
     c.from_residual.result (sym (append_assoc (all_parts c.args.line.words) (number c.args.line.number) end)) c.from_residual.ensures.1 c.in_err-write_parts.ensures
 
-pub returns-in_err-write_number : goal.returns-in_err-write_number
-returns-in_err-write_number g c =
-    let e = c.in_err-write_number.field-0.0 in
-    let r = c.from_residual-in_err-write_number.result in
-    WritesAll-then _ _ _ _ _ _ (all_parts c.args.line.words) (number c.args.line.number ++ end) _ r
-    (sym (append_assoc (all_parts c.args.line.words) (number c.args.line.number) end)) c.in_ok-write_parts.ensures
-    (WritesAll-stops _ _ _ _ (number c.args.line.number) end _ e r refl c.from_residual-in_err-write_number.ensures.1 c.in_err-write_number.ensures)
+pub returns-in-Some : goal.returns-in-Some
+returns-in-Some g c =
+    WritesAll-then _ _ _ _ _ _ (all_parts c.args.line.words) _ _ c.write_parts-in-Some.result (after_words (all_parts c.args.line.words) _ c.args.line.number _ c.in-Some.is
+    (in_parts c.in-Some.word.now c.format.result.now ∙ ap (λ d. ((codes " " ++ c.in-Some.word.now) ++ (codes " " ++ d)) ++ end) c.format.ensures.text))
+    c.in_ok-write_parts.ensures c.write_parts-in-Some.ensures
 
-pub returns : goal.returns
-returns g c =
-    let r = c.write_part.result in
-    WritesAll-then _ _ _ _ _ _ (all_parts c.args.line.words) (number c.args.line.number ++ end) _ r
-    (sym (append_assoc (all_parts c.args.line.words) (number c.args.line.number) end)) c.in_ok-write_parts.ensures
-    (WritesAll-then _ _ _ _ _ _ (number c.args.line.number) end _ r refl c.in_ok-write_number.ensures c.write_part.ensures)
+pub returns-in-None : goal.returns-in-None
+returns-in-None g c =
+    WritesAll-then _ _ _ _ _ _ (all_parts c.args.line.words) end _ c.write_parts-in-None.result (after_words (all_parts c.args.line.words) None c.args.line.number end c.in-None.is refl)
+    c.in_ok-write_parts.ensures c.write_parts-in-None.ensures
