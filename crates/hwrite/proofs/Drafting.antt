@@ -7,7 +7,7 @@ use Rattle.names.specs.declared.attr.Attr.{Attr}
 use Rattle.htag.specs.Attributes.{AttrsMean}
 use Rattle.htoken.specs.declared.token.Token.TheVariants as code
 use Rattle.htoken.specs.Token.{Alone, Char, End, Handed, HandedMeans, Start, TokenMeans, WithNames, is_tag}
-use Rattle.hwrite.specs.declared.draft.Draft.{Draft}
+use Rattle.hwrite.specs.declared.lines.Draft.{Draft}
 use Rattle.hwrite.specs.Draft.{AddsText, Drafts, after_characters, beginning_of_characters, end_of_characters}
 use Rattle.hwrite.specs.TokenLines.{Words}
 

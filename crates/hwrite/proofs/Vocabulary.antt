@@ -1,6 +1,10 @@
 -- The names of other crates and of specs/ that several proofs cite, in one place.
 pub use Rattle.hnodes.specs.Forest.{Forest}
-pub use Rattle.hwrite.specs.Vocabulary.{mapped, Answers, of_document, counted, as_document, Parses, AnswersParse, options_of, ReadsInput, TokensMean, IsUnrefusedText, WritesText, Doctype, Comment, Char, Tok, Start, own_context, case_in, drafted, draft_table, draft_attribute, tok_of, Prints, PrintsTokens, tokens_text, plain_line, escaped_byte, quote_escaped, quoted, Runs, RunsIn, ParserBeginsIn, quoted_or_none, line_of, line_text, token_lines, attribute_words}
+pub use Rattle.hnodes.specs.Mapped.{mapped}
+pub use Rattle.hparse.specs.Parse.{Parses}
+pub use Rattle.hparse.specs.Parsing.{AnswersParse}
+pub use Rattle.hparse.specs.Reader.{ReadsInput}
+pub use Rattle.hwrite.specs.Vocabulary.{Answers, of_document, counted, as_document, options_of, TokensMean, IsUnrefusedText, WritesText, Doctype, Comment, Char, Tok, Start, own_context, case_in, drafted, draft_table, draft_attribute, tok_of, Prints, tokens_text, plain_line, escaped_byte, quote_escaped, quoted, Runs, ParserBeginsIn, quoted_or_none, line_of, line_text, token_lines, attribute_words}
 pub use Rattle.hparse.specs.Parse.{ParseOptions}
 pub use Rattle.hparse.specs.declared.parsed.Parsed.{Parsed}
 pub use Rattle.hserialize.specs.Lines.{error_lines}
@@ -10,7 +14,7 @@ pub use Rattle.htoken.specs.declared.token.Token.{Token}
 pub use Rattle.hwrite.specs.Draft.{to_write, tok_handed}
 pub use Rattle.hwrite.specs.Prints.{printed, not_printed}
 pub use Rattle.hwrite.specs.Quoted.{is_unescaped}
-pub use Rattle.hwrite.specs.Running.{ran, allowed}
+pub use Rattle.hwrite.specs.Running.{RunsIn, ran}
 pub use Rattle.hwrite.specs.TokenLines.{lines_of, Line, Characters, joined}
 pub use Rattle.names.specs.Names.{Texts}
 pub use Rattle.names.specs.Spelling.{spelling}

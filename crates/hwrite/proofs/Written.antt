@@ -1,5 +1,5 @@
 -- What a run does, from what its reading and its writing do.
-use Rattle.hwrite.proofs.Vocabulary.{◌≡◌, ◌⊎◌, inl, inr, true, false, None, Some, ℕ, List, [], ◌++◌, refl, sym, ap, subst, ◌∙◌, append-nil, Option, Result, Ok, Err, Appends, Refusal, Memory, Write, counted, AppendsBeginning, WritesText, ParseOptions, ReadsInput, Runs, RunsIn, ran, allowed, ParserBeginsIn}
+use Rattle.hwrite.proofs.Vocabulary.{◌≡◌, ◌⊎◌, inl, inr, true, false, None, Some, ℕ, List, [], ◌++◌, refl, sym, ap, subst, ◌∙◌, append-nil, Option, Result, Ok, Err, Appends, Refusal, Memory, Write, counted, AppendsBeginning, WritesText, ParseOptions, ReadsInput, Runs, RunsIn, ran, ParserBeginsIn}
 use Rattle.std.proofs.Common.{MatchResult}
 use Rattle.std.specs.Io.KnownBytes.{Keeps, IsAtEnd}
 use Rattle.std.proofs.KnownBytes.{Keeps-refl, Appends-kept}
@@ -9,7 +9,7 @@ use Rattle.hparse.specs.declared.parser.Parser.{Parser}
 use Rattle.hparse.specs.Parse.{document, fragment, is_context}
 use Rattle.hparse.specs.Parsing.{HasParsed}
 use Rattle.hparse.specs.Reader.{reading_ran_out, reading_failed, reading_stopped, read_to_end, Gave}
-use Rattle.hwrite.specs.Running.{WritesNothing, run_ran_out, read_failed, stopped, refused, write_failed, wrote, context_refused, ReadsIn, not_allowed}
+use Rattle.hwrite.specs.Running.{WritesNothing, run_ran_out, read_failed, stopped, refused, write_failed, wrote, context_refused}
 
 module _ {W : Type 0} (written : W → Option (List ℕ)) (failed : W → ℕ) where
   -- a beginning was written
@@ -53,24 +53,13 @@ module _ {W : Type 0} (written : W → Option (List ℕ)) (failed : W → ℕ) w
     comes_to_text target target' run text answer (reading_stopped refusal before last is un gave from few) printed w = absurd cc
     comes_to_text target target' run text answer (read_to_end bytes un gave end its) printed w = text_comes target target' bytes text answer gave end (printed bytes its) w
 
-    -- the same of an input that is in an element
-    module _ (context : Option (List ℕ)) where
-      pub not_read_in : ((bytes : List ℕ) (e : Refusal) → answers bytes (Err e) → prints bytes (Err e)) → (target : W) (e : Refusal) → ReadsIn left reads context answers unrefused piece old new (Err e)
-          → RunsIn left reads written failed context prints unrefused piece old new target target (Err e)
-      not_read_in none target e (not_allowed not is same) = context_refused not (let why : e ≡ BadContext = cc in ap (λ (x : Refusal). Err x) why) same refl
-      not_read_in none target e (allowed is r) = ran is (not_read none target e r)
-
-      pub comes_to_text_in : (target target' : W) (run : R) (text : List ℕ) (answer : Result (Unit {0}) Refusal) → ReadsIn left reads context answers unrefused piece old new (Ok run)
-          → ((bytes : List ℕ) → answers bytes (Ok run) → prints bytes (Ok text)) → WritesText written failed text target target' answer
-          → RunsIn left reads written failed context prints unrefused piece old new target target' answer
-      comes_to_text_in target target' run text answer (not_allowed not is same) printed w = absurd cc
-      comes_to_text_in target target' run text answer (allowed is r) printed w = ran is (comes_to_text target target' run text answer r printed w)
-
 -- a parse that did not begin
-pub not_begun : {S R : Type 0} (left : S → Option (List ℕ)) (failed : S → ℕ) (answers : List ℕ → Result R Refusal → Type 0) (unrefused : List ℕ → Type 0) (piece : ℕ) (old : S) (opts : ParseOptions) (context : Option (List ℕ))
-    (e : Refusal) → ParserBeginsIn opts context (Err e) → ReadsIn left failed context answers unrefused piece old old (Err e)
-not_begun left failed answers unrefused piece old opts context e (inl (is, why)) = allowed is (reading_ran_out (ap (λ (x : Refusal). Err x) why) refl)
-not_begun left failed answers unrefused piece old opts context e (inr (not, why)) = not_allowed not (ap (λ (x : Refusal). Err x) why) refl
+pub not_begun : {S W : Type 0} (left : S → Option (List ℕ)) (reads : S → ℕ) (written : W → Option (List ℕ)) (failed : W → ℕ) (context : Option (List ℕ)) (prints : List ℕ → Result (List ℕ) Refusal → Type 0)
+    (unrefused : List ℕ → Type 0) (piece : ℕ) (source : S) (target : W) (opts : ParseOptions) (e : Refusal) → ParserBeginsIn opts context (Err e)
+    → RunsIn left reads written failed context prints unrefused piece source source target target (Err e)
+not_begun left reads written failed context prints unrefused piece source target opts e (inl (is, why)) =
+    ran is (run_ran_out (ap (λ (x : Refusal). Err x) why) refl (untouched written failed target))
+not_begun left reads written failed context prints unrefused piece source target opts e (inr (not, why)) = context_refused not (ap (λ (x : Refusal). Err x) why) refl refl
 
 pub begun_document : (opts : ParseOptions) (r : Result Parser Refusal) → MatchResult r (λ parser. HasParsed opts document parser []) (λ e. e ≡ Memory) → ParserBeginsIn opts None r
 begun_document opts (Ok parser) h = (tt, h)

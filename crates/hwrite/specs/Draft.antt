@@ -10,7 +10,7 @@ use Rattle.names.specs.Names.{Texts, text_of}
 use Rattle.htoken.specs.declared.token.Token.{Token}
 use Rattle.htoken.specs.declared.token.Token.TheVariants as code
 use Rattle.htoken.specs.Token.{Handed, Alone, WithNames, Tok, doctype_token, Start, End, Comment, Char, Eof}
-use Rattle.hwrite.specs.declared.draft.Draft.{Draft}
+use Rattle.hwrite.specs.declared.lines.Draft.{Draft}
 use Rattle.hwrite.specs.Quoted.{quote_escaped}
 use Rattle.hwrite.specs.TokenLines.{Line, Characters, joined, line_of, line_text}
 

@@ -1,14 +1,9 @@
 -- What is printed of an input: the text of its answer.
-use Rattle.std.specs.Prelude.{ℕ, Bool, true, false, List, Option, None, Result, Ok, Err, codes, option_map, String, string_bytes}
-use Rattle.std.specs.Global.{Global}
+use Rattle.std.specs.Prelude.{ℕ, Bool, true, false, List, Option, None, Result, Ok, Err, codes}
 use Rattle.names.specs.declared.error.ParseError.{ParseError}
-use Rattle.names.specs.Names.{text_of}
 use Rattle.names.specs.declared.refusal.Refusal.{Refusal}
-use Rattle.htext.specs.Text.{Policy}
-use Rattle.charref.specs.Reference.{Entities}
 use Rattle.htoken.specs.Token.{Tok}
 use Rattle.hnodes.specs.Forest.{Forest, children_of}
-use Rattle.hnodes.specs.Mapped.{mapped}
 use Rattle.hnodes.specs.Spots.{node_name}
 use Rattle.hserialize.specs.Lines.{tree_text, error_lines}
 use Rattle.hserialize.specs.Plain.{is_plain}
@@ -18,6 +13,7 @@ use Rattle.hserialize.specs.declared.escaping.Escaping.{Escaping}
 use Rattle.hparse.specs.Answer.{Answers}
 use Rattle.hparse.specs.Unrefused.{IsUnrefused, IsUnrefusedText}
 use Rattle.hparse.specs.declared.parsed.Parsed.{Parsed}
+use Rattle.hparse.specs.PageText.{page_name, page_trees}
 use Rattle.hparse.specs.Parse.{Parse, Parses, ParseCase, document, fragment, ParseOptions, manner, policy, root_of}
 use Rattle.hwrite.specs.declared.command.Task.{Task}
 use Rattle.hwrite.specs.declared.command.Task.TheVariants as task
@@ -29,19 +25,9 @@ pub data Prints {A : Type 0} (answers : List ℕ → Result A Refusal → Type 0
   printed : (answer : A) → answers bytes (Ok answer) → Prints answers text_of bytes (Ok (text_of answer))
   not_printed : (refusal : Refusal) → answers bytes (Err refusal) → Prints answers text_of bytes (Err refusal)
 
--- the text of tokens, of the tree in a document or below a fragment's root, and of parse errors
+-- the text of the tokens of an answer
 abbrev pub tokens_text : List Tok × List ParseError → List ℕ
 tokens_text answer = token_lines answer.0
-
-abbrev pub nodes_text : ParseCase → Parse → List ℕ
-nodes_text parse_case parse = tree_text (children_of (root_of parse_case) parse.trees)
-
-abbrev pub errors_text : Parse → List ℕ
-errors_text parse = error_lines parse.errors
-
--- what is in the root as HTML (#serialising-html-fragments); the root's own name says how its texts are written
-abbrev pub written_text : Escaping → ParseCase → Parse → List ℕ
-written_text escaping parse_case parse = written escaping (node_name (root_of parse_case) parse.trees) (children_of (root_of parse_case) parse.trees)
 
 -- whether the nodes of a fragment are plain in its context, or a document is plain
 abbrev pub is_plain_in : ParseCase → Forest (List ℕ) → Bool
@@ -52,15 +38,18 @@ abbrev pub plain_line : Bool → List ℕ
 plain_line true = codes "plain\n"
 plain_line false = codes "not plain\n"
 
-abbrev pub plain_text : ParseCase → Parse → List ℕ
-plain_text parse_case parse = plain_line (is_plain_in parse_case (children_of (root_of parse_case) parse.trees))
+-- What a task prints of parse errors, and of trees that are in an element of this name, or in none: HTML (#serialising-html-fragments), where
+-- the name says how texts are written; whether the trees are plain; or a line for each node. Tokens are printed of none.
+abbrev pub task_text : Escaping → Task → ParseCase → List ParseError → Option (List ℕ) → Forest (List ℕ) → List ℕ
+task_text escaping task.Errors parse_case errors name trees = error_lines errors
+task_text escaping task.Write parse_case errors name trees = written escaping name trees
+task_text escaping task.Plain parse_case errors name trees = plain_line (is_plain_in parse_case trees)
+task_text escaping _ parse_case errors name trees = tree_text trees
 
--- what a task prints of a parse; tokens are printed of none
+-- what it prints of a parse: of what is in the document, or in a fragment's root
 abbrev pub parse_text : Escaping → Task → ParseCase → Parse → List ℕ
-parse_text escaping task.Errors parse_case = errors_text
-parse_text escaping task.Write parse_case = written_text escaping parse_case
-parse_text escaping task.Plain parse_case = plain_text parse_case
-parse_text escaping _ parse_case = nodes_text parse_case
+parse_text escaping task parse_case parse =
+    task_text escaping task parse_case parse.errors (node_name (root_of parse_case) parse.trees) (children_of (root_of parse_case) parse.trees)
 
 -- what a task prints of an input that is in this element, or is a document, where HTML is escaped so; tokens are those of a document
 abbrev pub prints_of : Escaping → Task → Option (List ℕ) → ParseOptions → List ℕ → Result (List ℕ) Refusal → Type 0
@@ -77,18 +66,11 @@ abbrev pub context_of : Task → Option (List ℕ) → Option (List ℕ)
 context_of task.Tokens context = None
 context_of _ context = context
 
--- the same text by the numbers of names: that of what was parsed, in this element or as a document
+-- what is in the root of what was parsed
 abbrev pub parsed_nodes : Parsed → Forest (List ℕ)
-parsed_nodes parsed = mapped (text_of parsed.names) (children_of parsed.root parsed.tree.trees)
+parsed_nodes = page_trees
 
+-- the same text by the numbers of names: that of what was parsed, in this element or as a document
 abbrev pub parsed_text : Escaping → Task → Option (List ℕ) → Parsed → List ℕ
-parsed_text escaping task.Errors context parsed = error_lines parsed.errors.items
-parsed_text escaping task.Write context parsed = written escaping (option_map (text_of parsed.names) (node_name parsed.root parsed.tree.trees))
-    (parsed_nodes parsed)
-parsed_text escaping task.Plain context parsed = plain_line (is_plain_in (case_in context) (parsed_nodes parsed))
-parsed_text escaping _ context parsed = tree_text (parsed_nodes parsed)
-
--- what is printed of the tokens of a document, as a text in memory
-abbrev pub PrintsTokens : Entities → Policy → List ℕ → Result (String Global) Refusal → Type 0
-PrintsTokens table how bytes (Ok text) = Prints (Answers table how) tokens_text bytes (Ok (string_bytes text))
-PrintsTokens table how bytes (Err refusal) = Prints (Answers table how) tokens_text bytes (Err refusal)
+parsed_text escaping task context parsed =
+    task_text escaping task (case_in context) parsed.errors.items (page_name parsed) (page_trees parsed)

@@ -6,7 +6,7 @@ use Rattle.std.specs.Io.KnownBytes.{Keeps, Appends, Consumes, IsAtEnd}
 use Rattle.names.specs.declared.refusal.Refusal.{Refusal}
 use Rattle.names.specs.declared.refusal.Refusal.TheVariants.{Memory, Read, Write, BadContext}
 use Rattle.hparse.specs.Calls.{counted}
-use Rattle.hparse.specs.Reader.{Gave, IsRefusedFrom, ReadsInput}
+use Rattle.hparse.specs.Reader.{Gave, IsRefusedFrom}
 use Rattle.hparse.specs.Parse.{ParseOptions}
 use Rattle.hparse.specs.declared.parser.Parser.{Parser}
 use Rattle.hparse.specs.Parsing.{HasParsed}
@@ -64,13 +64,6 @@ abbrev pub RunsTask : {S W : Type 0} → (S → Option (List ℕ)) → (S → �
     → ParseOptions → ℕ → S → S → W → W → Result (Unit {0}) Refusal → Type 0
 RunsTask left failed_reads written failed_writes escaping task context opts piece =
     RunsIn left failed_reads written failed_writes (context_of task context) (prints_of escaping task context opts) (unrefused_of task context opts) piece
-
--- What reading an input does that is in this element, or is a document.
-pub data ReadsIn {S R : Type 0} (left : S → Option (List ℕ)) (failed : S → ℕ) (context : Option (List ℕ)) (answers : List ℕ → Result R Refusal → Type 0)
-    (unrefused : List ℕ → Type 0) (piece : ℕ) (old new : S) (answer : Result R Refusal) : Type 0 where
-  not_allowed : (AllowsContext context → ⊥) → answer ≡ Err BadContext → new ≡ old → ReadsIn left failed context answers unrefused piece old new answer
-  allowed : AllowsContext context → ReadsInput left failed answers unrefused piece [] old new answer
-      → ReadsIn left failed context answers unrefused piece old new answer
 
 -- What beginning a parse does in this element, or of a document: memory runs out, where the element is allowed.
 abbrev pub ParserBeginsIn : ParseOptions → Option (List ℕ) → Result Parser Refusal → Type 0

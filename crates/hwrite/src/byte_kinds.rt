@@ -22,14 +22,8 @@ pub fn kind_of(byte: u8) -> u8
 pub fn byte_at(kinds: &[u8], at: usize) -> u8
     ensures { (byte : ℕ) → kind_at kinds.now at ≡ kind_of byte → AreAlikeBytes result byte }
 {
-    KINDS[kind_at(kinds, at) as usize]
-}
-
-/// The kind at a place.
-fn kind_at(kinds: &[u8], at: usize) -> u8
-    ensures { result ≡ kind_at kinds.now at }
-{
-    kinds.get(at / 4).copied().unwrap_or(0) >> (at % 4 * 2) & 3
+    let four = kinds.get(at / 4).copied().unwrap_or(0);
+    KINDS[(four >> (at % 4 * 2) & 3) as usize]
 }
 
 /// Writes the kind at a place. Kinds at later places are lost.

@@ -1,6 +1,6 @@
 //! The lines and the columns of bytes.
 
-ghost use Rattle.std.specs.Prelude.{◌≡◌, ◌==◌, ◌<◌, ◌≤◌, ◌/◌, ◌+◌, ◌-◌, ◌^◌, if◌then◌else◌, IfOk, length, min, slice_index_or};
+ghost use Rattle.std.specs.Prelude.{◌≡◌, ◌==◌, ◌<◌, ◌≤◌, ◌/◌, ◌+◌, ◌-◌, ◌^◌, if◌then◌else◌, IfOk, length, min};
 ghost use Rattle.hwrite.specs.Columns.{AreMarks, begins_character, column_at, is_end, line_at};
 
 use std::alloc::{AllocError, Global};
@@ -34,17 +34,10 @@ fn place_after(text: &[u8], from: usize, end: usize, place: (usize, usize)) -> (
 {
     let mut place = place;
     for index in from..end {
-        place = next_place(place, text[index], is_before_lf(text, index));
+        let before_lf = text.get(index + 1) == Some(&b'\n');
+        place = next_place(place, text[index], before_lf);
     }
     place
-}
-
-/// Whether LF is the byte after the one at this place.
-fn is_before_lf(text: &[u8], index: usize) -> bool
-    requires { index < length text.now }
-    ensures { result ≡ (slice_index_or text.now (1 + index) 0 == 10) }
-{
-    text.get(index + 1) == Some(&b'\n')
 }
 
 /// The line and the column of the byte after this one, from its own.

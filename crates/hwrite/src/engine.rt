@@ -1,11 +1,11 @@
 //! An input from a reader, and what is made of it to a writer.
 
-ghost use Rattle.std.specs.Prelude.{◌≡◌, ◌<◌, [], OnOk};
-ghost use Rattle.hwrite.specs.Vocabulary.{text_of, children_of, mapped, Answers, of_document, Parses, options_of, AnswersParse, IsUnrefused, IsUnrefusedText, as_document, ReadsInput, own_context, case_in, is_plain_in, parse_text, parsed_text, plain_line, tokens_text, Prints, PrintsTokens, ParserBeginsIn, ReadsIn, Runs, RunsIn, RunsTask, IsFlushed, WritesText};
+ghost use Rattle.std.specs.Prelude.{◌≡◌, ◌<◌, OnOk, MatchResult};
+ghost use Rattle.hwrite.specs.Vocabulary.{page_trees, Answers, of_document, options_of, IsUnrefusedText, as_document, own_context, case_in, is_plain_in, parsed_text, plain_line, tokens_text, Prints, ParserBeginsIn, Runs, RunsTask, IsFlushed, WritesText, BadContext, AllowsContext};
 
 use crate::command::{Command, Task};
-use crate::draft::Draft;
-use hparse::{Options, Parsed, Parser, Source, parse_reader, read_into};
+use crate::lines::Draft;
+use hparse::{Options, Parsed, Parser, Source, is_context, parse_reader, read_into};
 use hserialize::{Target, print_errors, print_tree, write_all};
 use names::Refusal;
 use std::alloc::Global;
@@ -27,12 +27,14 @@ pub fn run<S: Source, W: Target>(
         source.old source.new target.old target.new result }
     ensures flushed { OnOk result (IsFlushed W.flushes target.new) }
 {
-    match command.task {
-        Task::Tokens => run_tokens(alloc, command.piece, options, source, target),
-        Task::Tree | Task::Errors | Task::Write | Task::Plain => {
-            run_parsed(alloc, command, options, source, target)
-        }
+    if let Task::Tokens = command.task {
+        return run_tokens(alloc, command.piece, options, source, target);
     }
+    let parser = parser(alloc, command.context, options)?;
+    let parsed = parse_reader(alloc, parser, command.piece, source)?;
+    let answer = print_parsed(alloc, command, &parsed, target);
+    leave(parsed, command.is_last);
+    answer
 }
 
 /// The tokens of a document.
@@ -50,54 +52,18 @@ fn run_tokens<S: Source, W: Target>(
         source.old source.new target.old target.new result }
     ensures flushed { OnOk result (IsFlushed W.flushes target.new) }
 {
-    let text = read_lines(alloc, piece, options, source)?;
-    write_text(target, text.as_bytes())
-}
-
-/// The lines of the tokens of a document.
-fn read_lines<S: Source>(
-    alloc: Global,
-    piece: usize,
-    options: &Options,
-    source: &mut S,
-) -> Result<String, Refusal>
-    requires piece { 0 < piece }
-    ensures { ReadsInput S.left S.failed (PrintsTokens options.now.table.now (of_document options.now.bad_bytes options.now.limits.input))
-        (IsUnrefusedText (as_document options.now.table.now options.now.bad_bytes options.now.limits.input)) piece [] source.old source.new result }
-{
     let (draft, answer) = read_into(alloc, piece, options, Draft::new(alloc), source);
     match answer {
         Ok(names) => {
             drop(names);
-            draft.into_text()
+            let text = draft.into_text()?;
+            write_text(target, text.as_bytes())
         }
         Err(refusal) => {
             drop(draft);
             Err(refusal)
         }
     }
-}
-
-/// What the task prints of the tree of a document or a fragment.
-fn run_parsed<S: Source, W: Target>(
-    alloc: Global,
-    command: Command,
-    options: &Options,
-    source: &mut S,
-    target: &mut W,
-) -> Result<(), Refusal>
-    requires piece { 0 < command.piece }
-    ensures runs { RunsIn S.left S.failed W.written W.failed (own_context command.entry.context)
-        (Prints (Parses (options_of options.now) (case_in (own_context command.entry.context)))
-        (parse_text command.entry.escaping command.entry.task (case_in (own_context command.entry.context))))
-        (IsUnrefused (options_of options.now) (case_in (own_context command.entry.context)))
-        command.entry.piece source.old source.new target.old target.new result }
-    ensures flushed { OnOk result (IsFlushed W.flushes target.new) }
-{
-    let parsed = parse(alloc, command, options, source)?;
-    let answer = print_parsed(alloc, command, &parsed, target);
-    leave(parsed, command.is_last);
-    answer
 }
 
 /// Frees what was parsed, unless the process ends and the system takes it all at once.
@@ -123,44 +89,22 @@ fn print_parsed<W: Target>(
     match command.task {
         Task::Errors => print_errors(alloc, &parsed.errors, target),
         Task::Write => parsed.serialize(alloc, command.escaping, target),
-        Task::Plain => write_text(target, plain_line(is_plain_in(command.context, parsed))),
+        Task::Plain => write_text(target, plain_line(command.context, parsed)),
         Task::Tree | Task::Tokens => {
             print_tree(alloc, &parsed.tree, &parsed.names, parsed.root, target)
         }
     }
 }
 
-/// What is printed of a fragment or a document that is plain, or is not.
-fn plain_line(is_plain: bool) -> &'static [u8]
-    ensures { result.now ≡ plain_line is_plain }
+/// What is printed of what was parsed in an element of this name, or of a document: whether it is plain there.
+fn plain_line(context: Option<&str>, parsed: &Parsed) -> &'static [u8]
+    ensures { result.now ≡ plain_line (is_plain_in (case_in (own_context context.entry)) (page_trees parsed.now)) }
 {
-    if is_plain { b"plain\n" } else { b"not plain\n" }
-}
-
-/// Whether what was parsed in an element of this name is plain there, or a document is plain.
-fn is_plain_in(context: Option<&str>, parsed: &Parsed) -> bool
-    ensures { result ≡ is_plain_in (case_in (own_context context.entry))
-        (mapped (text_of parsed.now.names) (children_of parsed.now.root parsed.now.tree.trees)) }
-{
-    match context {
+    let is_plain = match context {
         Some(name) => parsed.is_plain(name),
         None => parsed.is_plain_document(),
-    }
-}
-
-/// Parses a document or a fragment from a reader.
-fn parse<S: Source>(
-    alloc: Global,
-    command: Command,
-    options: &Options,
-    source: &mut S,
-) -> Result<Parsed, Refusal>
-    requires piece { 0 < command.piece }
-    ensures { ReadsIn S.left S.failed (own_context command.entry.context) (AnswersParse (options_of options.now) (case_in (own_context command.entry.context)))
-        (IsUnrefused (options_of options.now) (case_in (own_context command.entry.context))) command.entry.piece source.old source.new result }
-{
-    let parser = parser(alloc, command.context, options)?;
-    parse_reader(alloc, parser, command.piece, source)
+    };
+    if is_plain { b"plain\n" } else { b"not plain\n" }
 }
 
 /// The parser of a document, or of a fragment in an element of this name.
@@ -174,6 +118,16 @@ pub fn parser<'t>(
     match context {
         None => Parser::document(alloc, options),
         Some(name) => Parser::fragment(alloc, name, options),
+    }
+}
+
+/// Whether an input may be in an element of this name, if there is a name. An error is `BadContext`.
+pub fn check_context(context: Option<&str>) -> Result<(), Refusal>
+    ensures { MatchResult result (λ _. AllowsContext (own_context context.entry)) (λ e. (e ≡ BadContext) × (AllowsContext (own_context context.entry) → ⊥)) }
+{
+    match context {
+        Some(name) if !is_context(name) => Err(Refusal::BadContext),
+        _ => Ok(()),
     }
 }
 

@@ -10,9 +10,7 @@ mod columns;
 pub mod command;
 pub mod counted;
 pub mod devices;
-mod draft;
 pub mod engine;
-pub mod given_context;
 mod line_index;
 pub mod lines;
 mod quoted;
@@ -22,8 +20,7 @@ pub use columns::{Lines, line_column};
 pub use command::{Command, Task};
 pub use counted::Counted;
 pub use devices::{ReadDevice, WriteDevice};
-pub use engine::{parser, run, write_text};
-pub use given_context::check_context;
+pub use engine::{check_context, parser, run, write_text};
 pub use hmarkup::ErrorSink;
 pub use hnodes::{
     Ancestors, ChildElements, Children, Descendants, DocumentType, NodeId, NodeKind, Place, Tree,

@@ -1,22 +1,17 @@
 //! Lines of tokens, and parts of them.
 
-ghost use Rattle.std.specs.Prelude.{◌≡◌, ◌++◌, [], codes, decimal, if◌then◌else◌, map, OnOk};
+ghost use Rattle.std.specs.Prelude.{◌≡◌, ◌++◌, ℕ, [], codes, decimal, if◌then◌else◌, map, OnOk};
 ghost use Rattle.std.specs.List.{flat_map};
 ghost use Rattle.std.specs.String.{string_bytes};
 ghost use Rattle.hmarkup.specs.DoctypeWalk.{optional_text as text_if_any};
-ghost use Rattle.hwrite.specs.Vocabulary.{doctype_token, Start, Char, draft_attribute, attribute_words, quoted, quoted_or_none, line_of, line_text, draft_table, text_of, tok_of};
+ghost use Rattle.hwrite.specs.Vocabulary.{doctype_token, Start, draft_attribute, attribute_words, quoted, quoted_or_none, line_of, line_text, draft_table, text_of, tok_of};
 
-use crate::quoted::{push_escaped, push_quoted};
+use crate::quoted::push_quoted;
 use hmarkup::Doctype;
 use htoken::Token;
 use itoa::Buffer;
 use names::{Attr, NameId, Names};
 use std::alloc::AllocError;
-
-/// What is before the characters of a line, and after them.
-pub const CHARACTERS: &str = "chars \"";
-
-pub const END_OF_CHARACTERS: &str = "\"\n";
 
 /// Writes the place at which a line begins, and the words after it.
 pub fn begin_line(text: &mut String, at: u64, words: &str) -> Result<(), AllocError>
@@ -128,18 +123,9 @@ fn push_quoted_line(text: &mut String, at: u64, words: &str, source: &str) -> Re
     text.push('\n')
 }
 
-/// Writes the line of one character.
-fn push_character(text: &mut String, ch: char, at: u64) -> Result<(), AllocError>
-    ensures { OnOk result (string_bytes text.new
-        ≡ string_bytes text.old ++ line_text (line_of (Char ch at))) }
-{
-    begin_line(text, at, CHARACTERS)?;
-    push_escaped(text, ch)?;
-    text.push_str(END_OF_CHARACTERS)
-}
-
-/// Writes the line of a token by itself, with the table of its names if it is a tag.
+/// Writes the line of a token that is no character, with the table of its names if it is a tag.
 pub fn push_line(text: &mut String, token: &Token, names: Option<&Names>) -> Result<(), AllocError>
+    requires { (ch at : ℕ) → token.now ≡ Token.Char ch at → ⊥ }
     ensures { OnOk result (string_bytes text.new
         ≡ string_bytes text.old ++ line_text (line_of (tok_of (draft_table names.entry) token.now))) }
 {
@@ -153,7 +139,8 @@ pub fn push_line(text: &mut String, token: &Token, names: Option<&Names>) -> Res
         } => push_start_tag(text, *name, attrs, *closing, *at, names),
         Token::End { name, at } => push_quoted_line(text, *at, "end ", name_text(names, *name)),
         Token::Comment { text: comment, at } => push_quoted_line(text, *at, "comment ", comment),
-        Token::Char { ch, at } => push_character(text, *ch, *at),
         Token::Eof { at } => begin_line(text, *at, "eof\n"),
+        // There is none.
+        Token::Char { .. } => Ok(()),
     }
 }

@@ -1,11 +1,12 @@
-use Rattle.std.proofs.Common.{ap, arith, get_or, refl}
+use Rattle.std.proofs.Common.{◌≡◌, ◌+◌, ◌==◌, ap, arith, get_or, refl, rules}
 use Rattle.hwrite.proofs.Marks.{place_next}
 use Rattle.hwrite.specs.Columns.{is_end}
 use Rattle.hwrite.proofs.columns.place_after.Goals as goal
 
 pub loop-index-preserved : goal.loop-index-preserved
 loop-index-preserved c =
-    let byte = get_or c.args.text.now c.loop-index.index 0 in
-    place_next c.args.text.now c.loop-index.index byte c.is_before_lf.result c.loop-index.place _ (omega arith)
-    (ap (is_end byte) c.is_before_lf.ensures) refl c.loop-index.invariant.0 c.loop-index.invariant.1
+    let text = c.args.text.now in
+    let before_lf : c.eq-before_lf.result ≡ (get_or text (1 + c.loop-index.index) 0 == 10) = search rules in
+    place_next text c.loop-index.index (get_or text c.loop-index.index 0) c.eq-before_lf.result c.loop-index.place _ (omega arith)
+    (ap (is_end (get_or text c.loop-index.index 0)) before_lf) refl c.loop-index.invariant.0 c.loop-index.invariant.1
     c.next_place-place.ensures.line c.next_place-place.ensures.column

@@ -1,6 +1,6 @@
 use Rattle.hwrite.proofs.Vocabulary.{string_bytes, on_ok_weaker, line_of, draft_table, tok_of}
 use Rattle.hwrite.proofs.Drafting.{is_words, words_drafted}
-use Rattle.hwrite.proofs.draft.Draft.push.Goals as goal
+use Rattle.hwrite.proofs.lines.Draft.push.Goals as goal
 
 pub returns : goal.returns
 returns c =

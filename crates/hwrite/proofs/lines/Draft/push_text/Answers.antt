@@ -1,6 +1,6 @@
 use Rattle.hwrite.proofs.Vocabulary.{string_bytes, on_ok_weaker}
 use Rattle.hwrite.proofs.Drafting.{character_drafted}
-use Rattle.hwrite.proofs.draft.Draft.push_text.Goals as goal
+use Rattle.hwrite.proofs.lines.Draft.push_text.Goals as goal
 
 pub returns : goal.returns
 returns c =
