@@ -11,18 +11,10 @@ use std::alloc::Global;
 fn main(rt: HostRuntime) -> anyhow::Result<()> {
     let names = Names::new(rt.alloc(), Keys::random(&rt)?);
     let page = birds(rt.alloc())?;
-    let tree = page.tree();
-    let plain = is_plain(tree, &names, tree.document(), "body");
-    println!(rt; "plain: {plain}")?;
-    println!(rt; "elements: {}", page.elements())?;
-    let html = serialize_in_to_vec(
-        rt.alloc(),
-        tree,
-        &names,
-        tree.document(),
-        "body",
-        Escaping::One,
-    )?;
+    let (tree, top) = (page.tree(), page.tree().document());
+    let plain = is_plain(tree, &names, top, "body");
+    println!(rt; "plain: {plain}\nelements: {}", page.elements())?;
+    let html = serialize_in_to_vec(rt.alloc(), tree, &names, top, "body", Escaping::One)?;
     Ok(println!(rt; "{}", String::from_utf8(html)?)?)
 }
 
