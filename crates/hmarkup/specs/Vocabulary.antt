@@ -1,6 +1,6 @@
 -- The words of the contracts, in one place.
 pub use Rattle.hmarkup.specs.Comment.{errors_here, is_only_data, is_plain_in_bogus}
-pub use Rattle.hmarkup.specs.CommentWalk.{Progress, comment_begun, HasReadOf, IsInComment, IsInBogus, IsCommentSpan, closing_mark, is_whole}
+pub use Rattle.hmarkup.specs.CommentWalk.{Progress, comment_begun, HasReadOf, IsInComment, IsCommentSpan, closing_mark, is_whole}
 pub use Rattle.hmarkup.specs.Doctype.{IsDoctype, force, lengthened, keyword, no_space_after_keyword, no_identifier, no_quote, abrupt_identifier}
 pub use Rattle.hmarkup.specs.DoctypeSteps.{goes_to, ends_doctype, faulty, refuses, skips, step, before_name, in_name, after_name, in_keyword, after_keyword, in_quotes, after_public, after_system, first_letter, next_letter, letters_after, end_fault, fault_errors, found_by, with_run}
 pub use Rattle.hmarkup.specs.DoctypeWalk.{Reading, HasReadDoctype, is_data, optional_text}

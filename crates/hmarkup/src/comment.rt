@@ -5,7 +5,7 @@ ghost use Rattle.std.specs.Prelude.{◌≡◌, ℕ, List, [], true, IfOk, OnOk, 
 ghost use Rattle.std.specs.List.{list_all};
 ghost use Rattle.std.specs.Str.{chars};
 ghost use Rattle.hmarkup.specs.Vocabulary.{Error, Placed, all, characters, placed, Hands, Kind, Comment, Bogus, errors_here, is_only_data, is_plain_in_bogus, BeginsSpans};
-ghost use Rattle.hmarkup.specs.Vocabulary.{IsOpenMarkup, ClosedBy, HasMarkupSpan, IsOneSpan, TakesMarkup, TakesRun, EndsMarkup, Progress, comment_begun, HasReadOf, IsInComment, IsInBogus, IsCommentSpan};
+ghost use Rattle.hmarkup.specs.Vocabulary.{IsOpenMarkup, ClosedBy, HasMarkupSpan, IsOneSpan, TakesMarkup, TakesRun, EndsMarkup, Progress, comment_begun, HasReadOf, IsInComment, IsCommentSpan};
 ghost use Rattle.hmarkup.specs.Vocabulary.{closing_mark, next_progress, next_run};
 
 use crate::sink::ErrorSink;
@@ -103,27 +103,15 @@ impl CommentWalk {
     {
         match self.kind {
             CommentKind::Comment => self.take_in_comment(ch, at, errors),
-            CommentKind::Bogus => self.take_in_bogus(ch, at, errors),
+            CommentKind::Bogus => {
+                if ch == '>' {
+                    return Ok(true);
+                }
+                report(false, ch, at, errors)?;
+                push(&mut self.text, ch)?;
+                Ok(false)
+            }
         }
-    }
-
-    /// Reads a character in the bogus comment state.
-    fn take_in_bogus<S: ErrorSink>(
-        &mut self,
-        ch: char,
-        at: u64,
-        errors: &mut S,
-    ) -> Result<bool, Refusal>
-        ensures { (text : List Placed) (raised : List Error) → IsInBogus self.old text raised
-            → TakesMarkup S.gives IsInBogus (IsCommentSpan Bogus) text raised (record { ch = ch; at = at }) errors.old
-            result self.new self.new.data errors.new }
-    {
-        if ch == '>' {
-            return Ok(true);
-        }
-        report(false, ch, at, errors)?;
-        push(&mut self.text, ch)?;
-        Ok(false)
     }
 
     /// Reads a character in the comment start state, the comment state, or one of those around a closing mark or an inner `<!--`.
