@@ -16,39 +16,37 @@ two_dashes : (ending : Ending) → next_ending (next_ending ending 45) 45 ≡ Da
 two_dashes Plain = refl
 two_dashes _ = refl
 
--- what completes a longer text completes the text, with the characters between them in front
-closed_sooner : {V : Type 0} (IsCommentSpan : ℕ → List Placed → List Placed → V → List ParseError → Type 0) (text front closing : List Placed) → ClosedBy IsCommentSpan (text ++ front) closing → ClosedBy IsCommentSpan text (front ++ closing)
-closed_sooner IsCommentSpan text front closing k = record {
-  value = k.value;
-  errors = k.errors;
-  is_span = λ end rest. subst (λ (x : List Placed). IsCommentSpan end rest x k.value k.errors) (append_assoc text front closing) (k.is_span end rest);
-}
-
+-- `-->` after a comment's text
 module _ (w : Progress) (text : List Placed) (errs : List ParseError) (h : IsInComment w text errs) (a b c : Placed) (a_is : a.ch ≡ 45) (b_is : b.ch ≡ 45) (c_is : c.ch ≡ 62) where
+  abbrev mid : Progress
+  mid = next_progress w a.ch
+
+  abbrev last : Progress
+  last = next_progress mid b.ch
+
   abbrev errors_a : List ParseError
   errors_a = errs ++ errors_here (is_whole w.opening) a
 
   abbrev errors_b : List ParseError
-  errors_b = errors_a ++ errors_here (is_whole (next_progress w a.ch).opening) b
+  errors_b = errors_a ++ errors_here (is_whole mid.opening) b
 
-  after_a : IsInComment (next_progress w a.ch) (text ++ a ∷ []) errors_a
+  after_a : IsInComment mid (text ++ a ∷ []) errors_a
   after_a = kept_other w text errs a.ch a.at (is_whole w.opening) refl h (ap (λ (n : ℕ). eqb n 62) a_is)
 
-  after_b : IsInComment (next_progress (next_progress w a.ch) b.ch) ((text ++ a ∷ []) ++ b ∷ []) errors_b
-  after_b = kept_other (next_progress w a.ch) (text ++ a ∷ []) errors_a b.ch b.at (is_whole (next_progress w a.ch).opening) refl after_a (ap (λ (n : ℕ). eqb n 62) b_is)
+  after_b : IsInComment last ((text ++ a ∷ []) ++ b ∷ []) errors_b
+  after_b = kept_other mid (text ++ a ∷ []) errors_a b.ch b.at (is_whole mid.opening) refl after_a (ap (λ (n : ℕ). eqb n 62) b_is)
 
-  has_dashes : (next_progress (next_progress w a.ch) b.ch).ending ≡ Dashes
-  has_dashes = ap (λ (n : ℕ). next_ending (next_ending w.ending n) b.ch) a_is ∙ ap (λ (n : ℕ). next_ending (next_ending w.ending 45) n) b_is ∙ two_dashes w.ending
+  has_dashes : last.ending ≡ Dashes
+  has_dashes = (λ i. next_ending (next_ending w.ending (a_is i)) (b_is i)) ∙ two_dashes w.ending
 
   closed_by_dashes : ClosedBy IsComment text (a ∷ b ∷ c ∷ [])
-  closed_by_dashes =
-      closed_sooner IsComment text (a ∷ []) (b ∷ c ∷ [])
-      (closed_sooner IsComment (text ++ a ∷ []) (b ∷ []) (c ∷ [])
-      (record {
-        value = _;
-        errors = _;
-        is_span = closed_now (next_progress (next_progress w a.ch) b.ch) ((text ++ a ∷ []) ++ b ∷ []) errors_b c.ch c.at (is_whole (next_progress (next_progress w a.ch) b.ch).opening) refl after_b c_is has_dashes;
-      }))
+  closed_by_dashes = record {
+    value = last.data;
+    errors = errors_b ++ errors_here (is_whole last.opening) c;
+    is_span = λ end rest.
+        subst (λ (x : List Placed). IsComment end rest x last.data (errors_b ++ errors_here (is_whole last.opening) c)) (append_assoc (text ++ a ∷ []) (b ∷ []) (c ∷ []) ∙ append_assoc text (a ∷ []) (b ∷ c ∷ []))
+        (closed_now last ((text ++ a ∷ []) ++ b ∷ []) errors_b c.ch c.at (is_whole last.opening) refl after_b c_is has_dashes end rest);
+  }
 
 pub closed_span : (kind : CommentKind) (w : Progress) (text closing : List Placed) (errs : List ParseError) → HasReadOf kind w text errs → characters closing ≡ closing_mark kind → ClosedBy (IsCommentSpan kind) text closing
 closed_span Comment w text (a ∷ b ∷ c ∷ []) errs h is =

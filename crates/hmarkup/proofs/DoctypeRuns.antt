@@ -1,5 +1,5 @@
 -- A run of characters that are only data in a doctype.
-use Rattle.hmarkup.proofs.Names.{◌≡◌, ℕ, ◌+◌, ◌<◌, true, false, eqb, List, [], ◌∷◌, ◌++◌, sym, ap, ◌∙◌, refl, subst, Some, append_assoc, append-nil, length, arith, encode_utf8, encode_utf8_all, list_all, IsUtf8, chars, and_parts, false≢true, nat_tests, to_ascii_lowercase, ParseError, Placed, is_space, is_greater, placed, Identifier, DoctypeState, Found, step, step_errors, found_by, Reading, FitsState, HasReadDoctype}
+use Rattle.hmarkup.proofs.Names.{◌≡◌, ℕ, ◌+◌, ◌<◌, true, false, eqb, List, [], ◌∷◌, ◌++◌, sym, ap, ◌∙◌, refl, subst, transport, Some, append_assoc, append-nil, length, arith, encode_utf8, encode_utf8_all, list_all, IsUtf8, chars, and_parts, false≢true, nat_tests, to_ascii_lowercase, ParseError, Placed, is_space, is_greater, placed, Identifier, DoctypeState, Found, step, step_errors, found_by, Reading, FitsState, HasReadDoctype}
 use Rattle.std.specs.Char.{len_utf8}
 use Rattle.std.proofs.lemmas.List.Folds.{list_all-append}
 use Rattle.std.proofs.lemmas.Str.{encode_ascii, encodes-chars, len_utf8_bounds, length-encode}
@@ -62,9 +62,7 @@ first_data : (w : Reading) (text : List Placed) (errs : List ParseError) (p : Pl
     → HasReadDoctype (after_run w (encode_utf8 p.ch)) (text ++ p ∷ []) errs
 first_data w text errs p h k =
     let s = stays w.phase p h in
-    subst (λ (x : Found). HasReadDoctype (record { phase = w.phase; found = x }) (text ++ p ∷ []) errs) (s.kept w.found)
-    (subst (λ (x : List ParseError). HasReadDoctype (record { phase = w.phase; found = found_by (step w.phase p) p w.found }) (text ++ p ∷ []) x)
-    (ap (λ (x : List ParseError). errs ++ x) s.errors ∙ append-nil errs) (read_more w text errs p k w.phase s.next))
+    transport (λ t. HasReadDoctype (record { phase = w.phase; found = s.kept w.found t }) (text ++ p ∷ []) (((λ i. errs ++ s.errors i) ∙ append-nil errs) t)) (read_more w text errs p k w.phase s.next)
 
 run_data : (w : Reading) (text : List Placed) (errs : List ParseError) (at : ℕ) (cs : List ℕ) → list_all (is_data w.phase) (encode_utf8_all cs) ≡ true → HasReadDoctype w text errs
     → HasReadDoctype (after_run w (encode_utf8_all cs)) (text ++ placed at cs) errs

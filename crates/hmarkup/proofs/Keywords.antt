@@ -10,7 +10,7 @@ use Rattle.hmarkup.specs.DoctypeSteps.{identifier_begun, ends_doctype}
 use Rattle.hmarkup.specs.DoctypeWalk.{letters_left}
 use Rattle.hmarkup.proofs.Marks.{eqb_self}
 use Rattle.hmarkup.proofs.Characters.{lower_is_far, far_not_space, far_not_greater, far_not_null, no_null_error}
-use Rattle.hmarkup.proofs.Spaces.{past_space, at_once, with_space, with_none, any_space}
+use Rattle.hmarkup.proofs.Spaces.{past_space, at_once, with_none, any_space, with_space}
 use Rattle.hmarkup.proofs.Endings.{end_at, end_not_space, skipped_ends, skipped_goes, skipped_none, skipped_more, skips_at, skips_from, skips_not_space}
 use Rattle.hmarkup.proofs.Stepping.{ends_by, skips_by, ended, Goes, Stepped, passed, plain_errors, space_error, greater_error}
 
@@ -195,8 +195,7 @@ module _ (known : Found) (end : ℕ) (rest : List Placed) (p : Placed) (ps : Lis
       → Goes (after_name s g (first_letter p.ch) p.at).next (found_by (after_name s g (first_letter p.ch) p.at) p known) end rest ps found later
       → FollowsName known end rest (p ∷ ps) found (step_errors (after_name s g (first_letter p.ch) p.at) p ++ later)
   to_after_name later true g es eg h =
-      subst (λ (x : List ParseError). FollowsName known end rest (p ∷ ps) found x) (sym (plain_errors p (space_error p es) None later))
-      (with_space (λ spaced. AfterName known) false end rest found later p ps es (any_space (AfterName known) false true end rest ps found later h))
+      with_space (λ spaced. AfterName known) false end rest found later p ps es (any_space (AfterName known) false true end rest ps found later h)
   to_after_name later false true es eg h = with_none (λ spaced. AfterName known) false end rest found _ (p ∷ ps) (name_ends (ended known end rest p ps found later eg h))
   to_after_name later false false es eg h = with_none (λ spaced. AfterName known) false end rest found _ (p ∷ ps) (to_name_core later _ es eg refl h)
 

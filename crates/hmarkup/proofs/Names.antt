@@ -25,6 +25,7 @@ pub use Rattle.names.specs.declared.placed.Placed.{Placed}
 pub use Rattle.names.specs.declared.refusal.Refusal.{Refusal}
 pub use Rattle.names.specs.declared.refusal.Refusal.TheVariants.{Memory}
 pub use Rattle.std.proofs.Common.{◌≡◌, ℕ, ◌≤◌, true, false, ◌&&◌, ◌||◌, eqb, List, [], ◌∷◌, ◌++◌, length, sym, refl, ap, ◌∙◌, subst, codes, arith, append_assoc, append-nil, ◌+◌, Bool, cond, nat_lt, ◌<◌, None, Some, Result, Ok, not, take, Err, suc, drop, get_or, if◌then◌else◌, Option, map, length-append, string_bytes, rules}
+pub use Rattle.std.proofs.Math.Path.{transport}
 pub use Rattle.std.proofs.lemmas.Bool.{false≢true, eqb-true, and_parts, or_left, or_right, and_from, not-true, or_from, or_parts, and_right, false_from_ne_true, eqb-false}
 pub use Rattle.std.proofs.lemmas.Bool.Decides.{nat_tests}
 pub use Rattle.std.proofs.lemmas.List.{map-append, append_cancel_left, drop_all, drop_at}

@@ -1,11 +1,11 @@
 -- The name of a doctype: each character.
-use Rattle.hmarkup.proofs.Names.{◌≡◌, ℕ, Bool, true, false, not, ◌||◌, if◌then◌else◌, List, [], ◌∷◌, ◌++◌, sym, refl, ap, ◌∙◌, subst, Option, Some, None, append_assoc, is_some, false≢true, and_from, and_parts, not-true, or_from, or_left, or_right, ParseError, MissingDoctypeName, MissingWhitespaceBeforeDoctypeName, Placed, characters, begins, all, is_space, is_greater, error, null_errors, name_bytes, Found, name_ends, with_name, AfterSpace, AfterName, FollowsName, AfterOpening, begins_name, nameless, unfinished, before_name, in_name, step_errors, fault_errors, found_by}
+use Rattle.hmarkup.proofs.Names.{◌≡◌, ℕ, Bool, true, false, not, ◌||◌, if◌then◌else◌, List, [], ◌∷◌, ◌++◌, sym, refl, ap, ◌∙◌, subst, transport, Option, Some, None, append_assoc, is_some, false≢true, and_from, and_parts, not-true, or_from, or_left, or_right, ParseError, MissingDoctypeName, MissingWhitespaceBeforeDoctypeName, Placed, characters, begins, all, is_space, is_greater, error, null_errors, name_bytes, Found, name_ends, with_name, AfterSpace, AfterName, FollowsName, AfterOpening, begins_name, nameless, unfinished, before_name, in_name, step_errors, fault_errors, found_by}
 use Rattle.names.specs.Placed.{stops}
 use Rattle.hmarkup.specs.Doctype.{IsDoctypeName}
 use Rattle.hmarkup.proofs.Marks.{null_errors-append}
 use Rattle.hmarkup.proofs.Characters.{greater_not_space}
 use Rattle.hmarkup.proofs.Parts.{named-cons, named_not}
-use Rattle.hmarkup.proofs.Spaces.{past_space, at_once, with_space, with_none, any_space}
+use Rattle.hmarkup.proofs.Spaces.{past_space, at_once, with_none, any_space, with_space}
 use Rattle.hmarkup.proofs.Endings.{only_greater, greater_spells, neither_of, not_either}
 use Rattle.hmarkup.proofs.Stepping.{refused_by, ended, refused_at, Goes, Stepped, passed, plain_errors, space_error, greater_error, fault_if}
 use Rattle.hmarkup.proofs.Keywords.{name_not_space, name_ended}
@@ -27,8 +27,7 @@ module _ (known : Found) (end : ℕ) (rest : List Placed) (p : Placed) (ps : Lis
           later = later;
           text_is = cc;
           runs = record { passes_none = (and_parts (not (is_space n.ch || is_greater n.ch)) (all (λ c. not (is_space c || is_greater c)) ns) a).1; stops_after = s };
-          follows = subst (λ (x : Placed). FollowsName (with_name (name_bytes ns) (with_name (name_bytes (x ∷ [])) known)) end rest after found later) head
-              (subst (λ (x : Found). FollowsName x end rest after found later) (named-cons n ns known) f);
+          follows = transport (λ t. FollowsName ((named-cons n ns known ∙ (λ i. with_name (name_bytes ns) (with_name (name_bytes (head i ∷ [])) known))) t) end rest after found later) f;
           errors_are = refl;
         },
       )
@@ -41,9 +40,7 @@ module _ (known : Found) (end : ℕ) (rest : List Placed) (p : Placed) (ps : Lis
   name_over : (errors : List ParseError) (name after : List Placed) (later : List ParseError) → p ∷ ps ≡ name ++ after → all (λ c. not (is_space c || is_greater c)) name ≡ true
       → FollowsName (with_name (name_bytes name) known) end rest after found later → errors ≡ null_errors name ++ later
       → (is_space p.ch || is_greater p.ch) ≡ true → is_some known.name ≡ true → FollowsName known end rest (p ∷ ps) found errors
-  name_over errors [] after later t a f e is begun =
-      subst (λ (x : List ParseError). FollowsName known end rest (p ∷ ps) found x) (sym e)
-      (subst (λ (x : List Placed). FollowsName known end rest x found later) (sym t) (subst (λ (x : Found). FollowsName x end rest after found later) (named_not known begun) f))
+  name_over errors [] after later t a f e is begun = transport (λ i. FollowsName (named_not known begun i) end rest (sym t i) found (sym e i)) f
   name_over errors (n ∷ ns) after later t a f e is begun =
       absurd (false≢true (sym (not-true (is_space n.ch || is_greater n.ch) (and_parts (not (is_space n.ch || is_greater n.ch)) (all (λ c. not (is_space c || is_greater c)) ns) a).0)
       ∙ ap (begins (λ c. is_space c || is_greater c)) (sym t) ∙ is))
@@ -91,8 +88,7 @@ module _ (known : Found) (end : ℕ) (rest : List Placed) (p : Placed) (ps : Lis
   pub to_name : (later : List ParseError) (s g : Bool) → is_space p.ch ≡ s → is_greater p.ch ≡ g → is_some known.name ≡ true → Goes (in_name s g).next (found_by (in_name s g) p known) end rest ps found later
       → IsDoctypeName known end rest (p ∷ ps) found (step_errors (in_name s g) p ++ later)
   to_name later true g es eg begun h = over_name _ begun (or_left (is_space p.ch) (is_greater p.ch) es)
-      (subst (λ (x : List ParseError). FollowsName known end rest (p ∷ ps) found x) (sym (plain_errors p (space_error p es) None later))
-      (with_space (λ spaced. AfterName known) false end rest found later p ps es (any_space (AfterName known) false true end rest ps found later h)))
+      (with_space (λ spaced. AfterName known) false end rest found later p ps es (any_space (AfterName known) false true end rest ps found later h))
   to_name later false true es eg begun h = over_name _ begun (or_right (is_space p.ch) (is_greater p.ch) eg)
       (with_none (λ spaced. AfterName known) false end rest found _ (p ∷ ps) (name_ends (ended known end rest p ps found later eg h)))
   to_name later false false es eg begun h = longer_name later es eg h
@@ -127,8 +123,7 @@ module _ (known : Found) (end : ℕ) (rest : List Placed) (p : Placed) (ps : Lis
   pub to_before : (later : List ParseError) (spaced s g : Bool) → is_space p.ch ≡ s → is_greater p.ch ≡ g → Goes (before_name spaced s g p.at).next (found_by (before_name spaced s g p.at) p known) end rest ps found later
       → AfterSpace (AfterOpening known) spaced end rest (p ∷ ps) found (step_errors (before_name spaced s g p.at) p ++ later)
   to_before later spaced true g es eg h =
-      subst (λ (x : List ParseError). AfterSpace (AfterOpening known) spaced end rest (p ∷ ps) found x) (sym (plain_errors p (space_error p es) None later))
-      (with_space (AfterOpening known) spaced end rest found later p ps es h)
+      with_space (AfterOpening known) spaced end rest found later p ps es h
   to_before later spaced false true es eg (t, f, e) =
       with_none (AfterOpening known) spaced end rest found _ (p ∷ ps)
       (nameless (ap (λ (x : List Placed). characters (p ∷ x)) t ∙ greater_spells p eg) f (refused_at known end rest p ps found later MissingDoctypeName eg e))

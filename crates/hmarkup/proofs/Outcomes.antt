@@ -1,5 +1,5 @@
 -- The outcomes of a doctype walk's calls, by what the sink returns.
-use Rattle.hmarkup.proofs.Names.{◌≡◌, ℕ, true, false, List, [], ◌∷◌, ◌++◌, sym, refl, ap, ◌∙◌, subst, Option, Some, None, Result, Ok, Err, ParseError, Placed, Refusal, Memory, Hands, DoctypeState, Step, TakesMarkup, ran_out, sink_refused, goes_on, ended, EndsMarkup, BeginsSpans, Found, IsDoctype, force, step, step_errors, found_by, fault_errors, end_fault, found_at_end, Reading, HasReadDoctype}
+use Rattle.hmarkup.proofs.Names.{◌≡◌, ℕ, true, false, List, [], ◌∷◌, ◌++◌, sym, refl, ap, ◌∙◌, subst, transport, Some, None, Result, Ok, Err, ParseError, Placed, Refusal, Memory, Hands, DoctypeState, Step, TakesMarkup, ran_out, sink_refused, goes_on, ended, EndsMarkup, BeginsSpans, Found, IsDoctype, force, step, step_errors, found_by, fault_errors, end_fault, found_at_end, Reading, HasReadDoctype}
 use Rattle.hmarkup.specs.declared.doctype_state.DoctypeState.TheVariants as phase
 use Rattle.hmarkup.proofs.Handing.{hand_one}
 use Rattle.hmarkup.proofs.Reading.{read_more, read_whole, begins_past, read_to_end}
@@ -39,14 +39,12 @@ module _ {S : Type 0} (gives : S → ParseError → Result (Unit {0}) Refusal �
   end_faulty end fault found old new answer e f given = record {
     reported = fault ∷ [];
     handed = hand_one gives old new fault answer given;
-    is_span = subst (λ (x : Found). IsDoctype end [] text x (errs ++ fault ∷ [])) (forced_at w.phase end fault e w.found ∙ sym f)
-        (subst (λ (x : Option ParseError). IsDoctype end [] text (found_at_end w.phase w.found) (errs ++ fault_errors x)) e (read_to_end w text errs end h));
+    is_span = transport (λ t. IsDoctype end [] text ((forced_at w.phase end fault e w.found ∙ sym f) t) (errs ++ fault_errors (e t))) (read_to_end w text errs end h);
   }
 
   pub end_plain : (end : ℕ) (old : S) → end_fault w.phase end ≡ None → EndsMarkup gives IsDoctype text errs end w.found old (Ok tt) old
   end_plain end old e = record {
     reported = [];
     handed = (refl, refl);
-    is_span = subst (λ (x : Found). IsDoctype end [] text x (errs ++ [])) (as_it_was w.phase end e w.found)
-        (subst (λ (x : Option ParseError). IsDoctype end [] text (found_at_end w.phase w.found) (errs ++ fault_errors x)) e (read_to_end w text errs end h));
+    is_span = transport (λ t. IsDoctype end [] text (as_it_was w.phase end e w.found t) (errs ++ fault_errors (e t))) (read_to_end w text errs end h);
   }

@@ -7,7 +7,7 @@ use Rattle.hmarkup.specs.declared.doctype_state.DoctypeState.TheVariants as phas
 use Rattle.hmarkup.proofs.Marks.{null_errors-append, eqb_self}
 use Rattle.hmarkup.proofs.Characters.{quote_not_space, quote_not_greater, greater_not_space}
 use Rattle.hmarkup.proofs.Parts.{identified-cons, identified_not}
-use Rattle.hmarkup.proofs.Spaces.{past_space, at_once, with_space, with_none}
+use Rattle.hmarkup.proofs.Spaces.{past_space, at_once, with_none, with_space}
 use Rattle.hmarkup.proofs.Endings.{only_greater, greater_spells, neither_of, not_either, end_not_space, skips_from, skips_not_space}
 use Rattle.hmarkup.proofs.Stepping.{ends_by, refused_by, skips_by, ended, refused_at, Goes, Stepped, passed, plain_errors, space_error, quote_error, fault_if}
 
@@ -172,8 +172,7 @@ module _ (which : Identifier) (known : Found) (end : ℕ) (rest : List Placed) (
       → Goes (after_keyword which spaced s g q p.ch p.at).next (found_by (after_keyword which spaced s g q p.ch p.at) p known) end rest ps found later
       → AfterSpace (AfterKeyword which known) spaced end rest (p ∷ ps) found (step_errors (after_keyword which spaced s g q p.ch p.at) p ++ later)
   to_after_keyword later spaced true g q es eg eq h =
-      subst (λ (x : List ParseError). AfterSpace (AfterKeyword which known) spaced end rest (p ∷ ps) found x) (sym (plain_errors p (space_error p es) None later))
-      (with_space (AfterKeyword which known) spaced end rest found later p ps es h)
+      with_space (AfterKeyword which known) spaced end rest found later p ps es h
   to_after_keyword later spaced false true q es eg eq (t, f, e) =
       with_none (AfterKeyword which known) spaced end rest found _ (p ∷ ps)
       (missing (ap (λ (x : List Placed). characters (p ∷ x)) t ∙ greater_spells p eg) f (refused_at known end rest p ps found later (no_identifier which) eg e))
@@ -204,8 +203,7 @@ module _ (known : Found) (end : ℕ) (rest : List Placed) (p : Placed) (ps : Lis
       → Goes (after_public spaced s g q p.ch p.at).next (found_by (after_public spaced s g q p.ch p.at) p known) end rest ps found later
       → AfterSpace (AfterPublicIdentifier known) spaced end rest (p ∷ ps) found (step_errors (after_public spaced s g q p.ch p.at) p ++ later)
   to_public later spaced true g q es eg eq h =
-      subst (λ (x : List ParseError). AfterSpace (AfterPublicIdentifier known) spaced end rest (p ∷ ps) found x) (sym (plain_errors p (space_error p es) None later))
-      (with_space (AfterPublicIdentifier known) spaced end rest found later p ps es h)
+      with_space (AfterPublicIdentifier known) spaced end rest found later p ps es h
   to_public later spaced false true q es eg eq h =
       with_none (AfterPublicIdentifier known) spaced end rest found _ (p ∷ ps) (public_ends (ended known end rest p ps found later eg h))
   to_public later spaced false false true es eg eq h =

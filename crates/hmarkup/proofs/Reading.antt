@@ -1,5 +1,5 @@
 -- What a walk has read of a doctype, at one more character and at the end.
-use Rattle.hmarkup.proofs.Names.{◌≡◌, ℕ, false, List, [], ◌∷◌, ◌++◌, sym, refl, ap, ◌∙◌, subst, Option, Some, None, append_assoc, append-nil, append_cancel_left, ParseError, Placed, DoctypeState, Step, BeginsMarkup, BeginsSpans, IsOpenMarkup, IsOneSpan, Found, IsDoctype, step, step_errors, found_by, fault_errors, end_fault, found_at_end, Reading, DoctypeGoesOn, FitsState, HasReadDoctype}
+use Rattle.hmarkup.proofs.Names.{◌≡◌, ℕ, false, List, [], ◌∷◌, ◌++◌, sym, refl, ap, ◌∙◌, subst, transport, Option, Some, None, append_assoc, append-nil, append_cancel_left, ParseError, Placed, DoctypeState, Step, BeginsMarkup, BeginsSpans, IsOpenMarkup, IsOneSpan, Found, IsDoctype, step, step_errors, found_by, fault_errors, end_fault, found_at_end, Reading, DoctypeGoesOn, FitsState, HasReadDoctype}
 use Rattle.hmarkup.specs.declared.doctype_state.DoctypeState.TheVariants as phase
 use Rattle.hmarkup.specs.Doctype.{nothing}
 use Rattle.hmarkup.specs.DoctypeWalk.{GoesOnAfter}
@@ -69,9 +69,8 @@ module _ (w : Reading) (text : List Placed) (errs : List ParseError) (p : Placed
 
   pub read_whole : its.next ≡ None → (end : ℕ) (rest : List Placed) → IsDoctype end rest (text ++ p ∷ []) (found_by its p w.found) now
   read_whole is end rest =
-      subst (λ (x : List Placed). IsDoctype end rest x (found_by its p w.found) now) (append-nil (text ++ p ∷ []))
-      (subst (λ (x : List ParseError). IsDoctype end rest ((text ++ p ∷ []) ++ []) (found_by its p w.found) x) (append-nil now)
-      (on_from end rest [] (found_by its p w.found) [] (subst (λ (x : Option DoctypeState). Goes x (found_by its p w.found) end rest [] (found_by its p w.found) []) (sym is) (refl, refl, refl))))
+      transport (λ i. IsDoctype end rest (append-nil (text ++ p ∷ []) i) (found_by its p w.found) (append-nil now i))
+      (on_from end rest [] (found_by its p w.found) [] (subst (λ (x : Option DoctypeState). Goes x (found_by its p w.found) end rest [] (found_by its p w.found) []) (sym is) (refl, refl, refl)))
 
   pub begins_past : BeginsSpans IsDoctype (text ++ p ∷ []) now
   begins_past end after rest span found all d e = (past end after rest span found all d e).begins

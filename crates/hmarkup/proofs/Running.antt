@@ -1,5 +1,5 @@
 -- A run of characters that are only data in a comment.
-use Rattle.hmarkup.proofs.Names.{◌≡◌, ℕ, ◌+◌, Bool, true, false, eqb, List, [], ◌∷◌, ◌++◌, length, sym, refl, ap, ◌∙◌, subst, append_assoc, append-nil, arith, encode_utf8, list_all, IsUtf8, chars, and_parts, nat_tests, ParseError, NestedComment, Placed, all, placed, error_if, text_bytes, without_null, CommentKind, errors_here, Progress, comment_begun, IsInComment, IsInBogus, is_whole, next_progress}
+use Rattle.hmarkup.proofs.Names.{◌≡◌, ℕ, ◌+◌, Bool, true, false, eqb, List, [], ◌∷◌, ◌++◌, length, sym, refl, ap, ◌∙◌, subst, transport, append_assoc, append-nil, arith, encode_utf8, list_all, IsUtf8, chars, and_parts, nat_tests, ParseError, NestedComment, Placed, all, placed, error_if, text_bytes, without_null, CommentKind, errors_here, Progress, comment_begun, IsInComment, IsInBogus, is_whole, next_progress}
 use Rattle.std.proofs.Common.{encode_utf8_all}
 use Rattle.std.specs.Char.{len_utf8}
 use Rattle.std.proofs.lemmas.List.Folds.{list_all-append}
@@ -44,9 +44,7 @@ next_data w c h = grind (arith, nat_tests)
 first_data : (w : Progress) (text : List Placed) (errs : List ParseError) (p : Placed) → is_only_data p.ch ≡ true → IsInComment w text errs
     → IsInComment (next_run w (encode_utf8 (without_null p.ch))) (text ++ p ∷ []) (errs ++ error_if (is_whole w.opening) NestedComment p.at)
 first_data w text errs p h k =
-    subst (λ (x : Progress). IsInComment x (text ++ p ∷ []) (errs ++ error_if (is_whole w.opening) NestedComment p.at)) (next_data w p.ch h)
-    (subst (λ (x : List ParseError). IsInComment (next_progress w p.ch) (text ++ p ∷ []) (errs ++ x)) (data_error (is_whole w.opening) p h)
-    (kept_other w text errs p.ch p.at (is_whole w.opening) refl k (no_greater p.ch h)))
+    transport (λ i. IsInComment (next_data w p.ch h i) (text ++ p ∷ []) (errs ++ data_error (is_whole w.opening) p h i)) (kept_other w text errs p.ch p.at (is_whole w.opening) refl k (no_greater p.ch h))
 
 -- what a run does to a comment in which no mark has begun, and to any other
 more_data : (kind : CommentKind) («data» : List ℕ) (text : List Placed) (errs : List ParseError) (run : List Placed) → all is_only_data run ≡ true → IsInComment (comment_begun kind «data») text errs

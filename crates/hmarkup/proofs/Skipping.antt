@@ -1,6 +1,6 @@
 -- A skipped rest and what follows the system identifier: each character.
 use Rattle.hmarkup.proofs.Names.{◌≡◌, ℕ, Bool, true, false, List, [], ◌∷◌, ◌++◌, sym, refl, ◌∙◌, subst, None, ParseError, UnexpectedCharacterAfterDoctypeSystemIdentifier, Placed, begins, is_space, is_greater, Found, AfterSpace, IsSkipped, AfterSystemIdentifier, system_ends, system_skips, in_skipped, after_system, step_errors, found_by}
-use Rattle.hmarkup.proofs.Spaces.{past_space, at_once, with_space, with_none, any_space}
+use Rattle.hmarkup.proofs.Spaces.{past_space, at_once, with_none, any_space, with_space}
 use Rattle.hmarkup.proofs.Endings.{end_not_space, skipped_ends, skipped_goes, skipped_none, skipped_more, skips_from, skips_not_space}
 use Rattle.hmarkup.specs.DoctypeSteps.{ends_doctype}
 use Rattle.hmarkup.proofs.Stepping.{ends_by, skips_by, ended, Goes, Stepped, passed, plain_errors, space_error, greater_error}
@@ -36,8 +36,7 @@ module _ (known : Found) (end : ℕ) (rest : List Placed) (p : Placed) (ps : Lis
   pub to_system : (later : List ParseError) (s g : Bool) → is_space p.ch ≡ s → is_greater p.ch ≡ g → Goes (after_system s g p.at).next (found_by (after_system s g p.at) p known) end rest ps found later
       → AfterSpace (λ spaced. AfterSystemIdentifier known) false end rest (p ∷ ps) found (step_errors (after_system s g p.at) p ++ later)
   to_system later true g es eg h =
-      subst (λ (x : List ParseError). AfterSpace (λ spaced. AfterSystemIdentifier known) false end rest (p ∷ ps) found x) (sym (plain_errors p (space_error p es) None later))
-      (with_space (λ spaced. AfterSystemIdentifier known) false end rest found later p ps es (any_space (AfterSystemIdentifier known) false true end rest ps found later h))
+      with_space (λ spaced. AfterSystemIdentifier known) false end rest found later p ps es (any_space (AfterSystemIdentifier known) false true end rest ps found later h)
   to_system later false true es eg h = with_none (λ spaced. AfterSystemIdentifier known) false end rest found _ (p ∷ ps) (system_ends (ended known end rest p ps found later eg h))
   to_system later false false es eg h =
       with_none (λ spaced. AfterSystemIdentifier known) false end rest found _ (p ∷ ps)

@@ -1,6 +1,7 @@
 -- White space before a production, a character at a time.
-use Rattle.hmarkup.proofs.Names.{◌≡◌, ℕ, Bool, true, false, not, ◌||◌, List, [], ◌∷◌, ◌++◌, sym, refl, ap, ◌∙◌, subst, false≢true, and_from, and_parts, ParseError, Placed, begins, is_empty, all, is_space, Found, Stands, AfterSpace}
+use Rattle.hmarkup.proofs.Names.{◌≡◌, ℕ, Bool, true, false, not, ◌||◌, List, [], ◌∷◌, ◌++◌, sym, refl, ap, ◌∙◌, subst, false≢true, and_from, and_parts, ParseError, Placed, begins, is_empty, all, is_space, Found, Stands, AfterSpace, transport, None, fault_errors, null_errors}
 use Rattle.std.proofs.Math.Bool.{or-true, or-false}
+use Rattle.hmarkup.proofs.Stepping.{plain_errors, space_error}
 
 module _ (T : Bool → Stands) (spaced : Bool) (end : ℕ) (rest : List Placed) (found : Found) (errors : List ParseError) where
   -- white space leaves the production after it
@@ -29,15 +30,6 @@ module _ (T : Bool → Stands) (spaced : Bool) (end : ℕ) (rest : List Placed) 
   at_once text h is = none_there text h.space h.after h.text_is h.spaces h.then is
 
   -- backwards
-  pub with_space : (p : Placed) (ps : List Placed) → is_space p.ch ≡ true → AfterSpace T true end rest ps found errors → AfterSpace T spaced end rest (p ∷ ps) found errors
-  with_space p ps is h = record {
-    space = p ∷ h.space;
-    after = h.after;
-    text_is = ap (λ (x : List Placed). p ∷ x) h.text_is;
-    spaces = and_from (is_space p.ch) (all is_space h.space) is h.spaces;
-    then = subst (λ (b : Bool). T b end rest h.after found errors) (sym (or-true spaced)) h.then;
-  }
-
   pub with_none : (text : List Placed) → T spaced end rest text found errors → AfterSpace T spaced end rest text found errors
   with_none text h = record {
     space = [];
@@ -50,3 +42,14 @@ module _ (T : Bool → Stands) (spaced : Bool) (end : ℕ) (rest : List Placed) 
 -- a production that doesn't depend on the white space before it
 pub any_space : (T : Stands) (a b : Bool) (end : ℕ) (rest text : List Placed) (found : Found) (errors : List ParseError) → AfterSpace (λ (s : Bool). T) a end rest text found errors → AfterSpace (λ (s : Bool). T) b end rest text found errors
 any_space T a b end rest text found errors h = record { space = h.space; after = h.after; text_is = h.text_is; spaces = h.spaces; then = h.then }
+
+-- backwards, with the errors of white space
+pub with_space : (T : Bool → Stands) (spaced : Bool) (end : ℕ) (rest : List Placed) (found : Found) (later : List ParseError) (p : Placed) (ps : List Placed) → is_space p.ch ≡ true → AfterSpace T true end rest ps found later
+    → AfterSpace T spaced end rest (p ∷ ps) found ((fault_errors None ++ null_errors (p ∷ [])) ++ later)
+with_space T spaced end rest found later p ps is h = record {
+  space = p ∷ h.space;
+  after = h.after;
+  text_is = ap (λ (x : List Placed). p ∷ x) h.text_is;
+  spaces = and_from (is_space p.ch) (all is_space h.space) is h.spaces;
+  then = transport (λ i. T (sym (or-true spaced) i) end rest h.after found (sym (plain_errors p (space_error p is) None later) i)) h.then;
+}

@@ -77,10 +77,6 @@ told_empty end (d ∷ []) (q ∷ []) rest f c = rw (first_is q [] 62 [] c, eqb-t
 told_empty end (d ∷ e ∷ ds) (q ∷ []) rest f c = absurd (false≢true (and_parts (eqb d.ch 45) false f).1)
 told_empty end dash _ rest f c = absurd cc
 
-told_is_same : (n m : ℕ) (bytes bytes' : List ℕ) (last last' : List ParseError) → n ≡ m → bytes ≡ bytes' → last ≡ last'
-    → let a : Told = record { size = n; bytes = bytes; last = last } in let b : Told = record { size = m; bytes = bytes'; last = last' } in a ≡ b
-told_is_same n m bytes bytes' last last' e f g = cc
-
 place-front : (end : ℕ) (close rest : List Placed) → characters close ≡ codes ">" → place end (close ++ rest) ≡ place end close
 place-front end [] rest c = absurd cc
 place-front end (q ∷ qs) rest c = refl
@@ -88,7 +84,7 @@ place-front end (q ∷ qs) rest c = refl
 pub told_of : (end : ℕ) (rest text : List Placed) (d : List ℕ) (es : List ParseError) → IsComment end rest text d es → IsTold end rest text d es
 told_of end rest text d es (closed_at_once dash close t f c data_is errors_are) = record {
   last = error AbruptClosingOfEmptyComment (place end close) ∷ [];
-  told_is = ap (λ (x : List Placed). told end (x ++ rest)) t ∙ told_empty end dash close rest f c ∙ told_is_same _ _ _ _ _ _ (ap length (sym t)) (sym data_is) refl;
+  told_is = ap (λ (x : List Placed). told end (x ++ rest)) t ∙ told_empty end dash close rest f c ∙ (λ i. record { size = length (sym t i); bytes = sym data_is i; last = error AbruptClosingOfEmptyComment (place end close) ∷ [] });
   errors_are = errors_are;
 }
 told_of end rest text d es (closed inner close t s b c data_is errors_are) =
@@ -100,7 +96,7 @@ told_of end rest text d es (closed inner close t s b c data_is errors_are) =
       last = [];
       told_is = ap (λ (x : List Placed). told end (x ++ rest)) t
           ∙ told_closed end inner close rest (omega (arith, size)) (sym (ap closes_at_once t) ∙ s) (b ∙ ap (before closes_comment) t) at_close
-          ∙ rw arrow (told_is_same _ _ _ _ _ _ long (sym data_is) refl);
+          ∙ rw arrow (λ i. record { size = long i; bytes = sym data_is i; last = [] });
       errors_are = errors_are ∙ sym (append-nil (comment_errors_after [] text));
     }
 told_of end rest text d es (closed_with_bang inner dashes close t s b c1 c data_is errors_are) =
@@ -117,7 +113,7 @@ told_of end rest text d es (closed_with_bang inner dashes close t s b c1 c data_
       last = error IncorrectlyClosedComment (place end close) ∷ [];
       told_is = ap (λ (x : List Placed). told end (x ++ rest)) t'
           ∙ told_closed end inner (dashes ++ close) rest (omega (arith, size)) (sym (ap closes_at_once t') ∙ s) (b ∙ ap (before closes_comment) t') at_close
-          ∙ rw (no_way, bang) (told_is_same _ _ _ _ _ _ long (sym data_is) (ap (λ (n : ℕ). error IncorrectlyClosedComment n ∷ []) (ap (place end) past ∙ place-front end close rest c)));
+          ∙ rw (no_way, bang) (λ i. record { size = long i; bytes = sym data_is i; last = error IncorrectlyClosedComment ((ap (place end) past ∙ place-front end close rest c) i) ∷ [] });
       errors_are = errors_are;
     }
 told_of end rest text d es (unclosed r s b data_is errors_are) =
@@ -129,7 +125,7 @@ told_of end rest text d es (unclosed r s b data_is errors_are) =
           ∙ ap (λ (b : Bool). if b then told_at_once (spells (codes ">") text) end text else told_at end text (before closes_comment text) (drop (length (before closes_comment text)) text)) s
           ∙ ap (λ (x : List Placed). told_at end text x (drop (length x) text)) (sym b)
           ∙ ap (told_at end text text) left
-          ∙ told_is_same _ _ _ _ _ _ refl (sym data_is) refl;
+          ∙ (λ i. record { size = length text; bytes = sym data_is i; last = error EofInComment end ∷ [] });
       errors_are = errors_are;
     }
 
