@@ -1,16 +1,15 @@
 -- The input's end after `<!`: what came after it is read as a comment.
-use Rattle.htoken.proofs.Names.{◌≡◌, ℕ, true, false, List, [], ◌∷◌, ◌++◌, sym, refl, ap, ◌∙◌, subst, Result, Ok, Err, append-nil, IncorrectlyOpenedComment, ParseError, Placed, RawKind, Refusal, Texts, all, place, error, is_plain_in_bogus, Entities, Bogus, IsCommentOf, WalkEnds, Opened, Raised, Tokenizer, IsDataSpan, is_declaration, bogus_declaration, Span, Event, Comment, gives_item, Reads, IsHeld, EndsHeld, held_ran_out, held_ended, less, Keeps, BeginsBogus, GivesSpan, Handed, HandedMeans}
+use Rattle.htoken.proofs.Names.{◌≡◌, ℕ, true, false, List, [], ◌∷◌, ◌++◌, sym, refl, ap, ◌∙◌, subst, Result, Ok, Err, append-nil, IncorrectlyOpenedComment, ParseError, Placed, RawKind, Refusal, Texts, all, place, error, is_plain_in_bogus, Entities, Bogus, IsCommentOf, WalkEnds, Raised, Tokenizer, IsDataSpan, is_declaration, bogus_declaration, Span, Event, Comment, gives_item, Reads, IsHeld, EndsHeld, held_ran_out, held_ended, less, Keeps, BeginsBogus, GivesSpan, Handed, HandedMeans}
 use Rattle.names.specs.declared.raw.RawKind.TheVariants as kind
 use Rattle.htoken.specs.declared.state.State.TheVariants as state
 use Rattle.htoken.proofs.AtEnd.{no_script, stands_at_end}
-use Rattle.htoken.proofs.Declaring.{nothing_at_end, opened_plain}
 use Rattle.htoken.proofs.Handing.{span_given}
 use Rattle.htoken.proofs.InData.{in_data}
 use Rattle.htoken.proofs.InMarkup.{keeps, kept, refused}
 use Rattle.htoken.proofs.Reading.{held_in, kind_in}
 
 module _ {S : Type 0} (gives : S → ParseError → Result (Unit {0}) Refusal → S → Type 0) (gives_token : S → Handed → Result (Unit {0}) Refusal → S → Type 0) (table : Entities) (start : RawKind) (end : ℕ) (text : List Placed) (names : Texts)
-    (taken : List Event) (t : Tokenizer) (h : Reads table start t names text [] taken) (at : ℕ) (so : Opened) (after_bang : t.state ≡ state.MarkupDeclarationOpen at so) where
+    (taken : List Event) (t : Tokenizer) (h : Reads table start t names text [] taken) (at : ℕ) (after_bang : t.state ≡ state.MarkupDeclarationOpen at) where
   abbrev body : List Placed
   body = t.held.items
 
@@ -20,14 +19,14 @@ module _ {S : Type 0} (gives : S → ParseError → Result (Unit {0}) Refusal �
   abbrev e : ParseError
   e = error IncorrectlyOpenedComment (place end body)
 
-  abbrev declared : IsHeld (state.MarkupDeclarationOpen at so) table names h.here t h.held []
-  declared = held_in h (state.MarkupDeclarationOpen at so) after_bang
+  abbrev declared : IsHeld (state.MarkupDeclarationOpen at) table names h.here t h.held []
+  declared = held_in h (state.MarkupDeclarationOpen at) after_bang
 
   pub declared_plain : all is_plain_in_bogus body ≡ true
-  declared_plain = opened_plain so body declared.2
+  declared_plain = declared.2.plain
 
   here_is : h.here.kind ≡ kind.None
-  here_is = kind_in h (state.MarkupDeclarationOpen at so) after_bang
+  here_is = kind_in h (state.MarkupDeclarationOpen at) after_bang
 
   abbrev pub EndsIn : Tokenizer → Result (Unit {0}) Refusal → Raised → Type 0
   EndsIn begun answer raised = WalkEnds keeps (IsCommentOf Bogus) body [] end begun.comment.data begun.raised answer raised
@@ -48,5 +47,5 @@ module _ {S : Type 0} (gives : S → ParseError → Result (Unit {0}) Refusal �
       (subst (λ (a : ℕ). IsDataSpan table end [] (record { text = mark ++ body; tokens = Comment mid.comment.data a ∷ []; errors = e ∷ k.reported })) (sym (keep.at_is ∙ b.keeps.at_is))
       (subst (λ (x : List Placed). IsDataSpan table end [] (record { text = mark ++ body; tokens = Comment mid.comment.data t.at ∷ []; errors = error IncorrectlyOpenedComment (place end x) ∷ k.reported })) (append-nil body)
       (subst (λ (x : List ℕ). IsDataSpan table end [] (record { text = mark ++ body; tokens = Comment x t.at ∷ []; errors = error IncorrectlyOpenedComment (place end (body ++ [])) ∷ k.reported })) (sym data_is)
-      (bogus_declaration mark body begun.comment.data k.reported refl (subst (λ (x : List Placed). is_declaration x ≡ false) (sym (append-nil body)) (nothing_at_end so body declared.2)) k.is_span refl)))))) refl)
+      (bogus_declaration mark body begun.comment.data k.reported refl (subst (λ (x : List Placed). is_declaration x ≡ false) (sym (append-nil body)) declared.2.none) k.is_span refl)))))) refl)
       (span_given gives gives_token names mid.raised.errors.items g.token (Comment mid.comment.data mid.at) old s answer (g.means names) g.handed)

@@ -7,26 +7,24 @@ use Rattle.names.specs.declared.raw.RawKind.TheVariants as kind
 use Rattle.names.specs.Placed.{before, null_errors, text_bytes}
 use Rattle.charref.proofs.Opening.{open_taken}
 use Rattle.hmarkup.specs.declared.comment.CommentKind.TheVariants as comment
-use Rattle.hmarkup.specs.Comment.{closes_bogus}
+use Rattle.hmarkup.specs.Comment.{closes_bogus, is_plain_in_bogus}
 use Rattle.hmarkup.specs.CommentWalk.{HasReadOf, IsCommentSpan as IsCommentOf}
 use Rattle.hmarkup.specs.DoctypeWalk.{HasReadDoctype}
 use Rattle.hmarkup.proofs.Closing.{closed_span, closed_doctype}
 use Rattle.htag.specs.declared.kind.TagKind.{TagKind}
 use Rattle.htag.specs.declared.kind.TagKind.TheVariants as tag
 use Rattle.htag.proofs.Parts.{begins_stops}
-use Rattle.htoken.specs.declared.markup_declaration_open.Opened.{Opened}
-use Rattle.htoken.specs.declared.markup_declaration_open.Opened.TheVariants as opened
 use Rattle.htoken.specs.declared.state.State.{State}
 use Rattle.htoken.specs.declared.state.State.TheVariants as state
 use Rattle.htoken.specs.declared.tokenizer.Tokenizer.{Tokenizer}
 use Rattle.htoken.specs.Data as d
-use Rattle.htoken.specs.MarkupDeclarationOpen.{IsOpened}
+use Rattle.htoken.specs.MarkupDeclarationOpen.{OpensNothing}
 use Rattle.htoken.specs.HeldFrom.{from_of}
 use Rattle.htoken.specs.Raw.{is_raw, name_ends}
 use Rattle.htoken.specs.Tag.{tag_mark}
 use Rattle.htoken.specs.Token.{doctype_token}
 use Rattle.htoken.specs.Tokenizing.{Reads, holds, in_ambiguous_ampersand, IsHeld, IsStateOf, IsInMarkup, IsInMarkedTag, IsInReference, less, after_last}
-use Rattle.htoken.proofs.Declaring.{nothing_at_end}
+use Rattle.htoken.proofs.Declaring.{bogus_at}
 use Rattle.htoken.proofs.Holding.{held_place}
 use Rattle.htoken.proofs.InData.{in_data}
 use Rattle.htoken.proofs.RawEnds.{a_name, is_whole, letters_stay}
@@ -63,39 +61,7 @@ module _ (table : Entities) (opening body : List Placed) (c : CanEnd table body)
 
 -- DECLARATIONS
 
-spells_not : (cs : List ℕ) (text more : List Placed) → list_all (λ c. not (eqb 62 c)) cs ≡ true → spells cs text ≡ false → spells cs (text ++ (greater ∷ more)) ≡ false
-spells_not [] text more h e = absurd (false≢true (sym e))
-spells_not (c ∷ cs) [] more h e = grind (arith, nat_tests)
-spells_not (c ∷ cs) (p ∷ ps) more h e = grind (arith, nat_tests, spells_not cs ps more)
-
-any_case_not : (cs : List ℕ) (text more : List Placed) → list_all (λ c. not (eqb 62 c)) cs ≡ true → spells_in_any_case cs text ≡ false → spells_in_any_case cs (text ++ (greater ∷ more)) ≡ false
-any_case_not [] text more h e = absurd (false≢true (sym e))
-any_case_not (c ∷ cs) [] more h e = grind (arith, nat_tests)
-any_case_not (c ∷ cs) (p ∷ ps) more h e = grind (arith, nat_tests, any_case_not cs ps more)
-
-no_declaration : (text more : List Placed) → is_declaration text ≡ false → is_declaration (text ++ (greater ∷ more)) ≡ false
-no_declaration text more e =
-    grind (arith, spells_not (codes "--") text more refl, any_case_not (codes "doctype") text more refl, spells_not (codes "[CDATA[") text more refl)
-
--- no `>` is in what is held after `<!`
-abbrev no_close : List Placed → Bool
-no_close text = list_all (λ c. not (eqb c 62)) (characters text)
-
-list_front : (xs ys : List ℕ) → list_all (λ c. not (eqb c 62)) (xs ++ ys) ≡ true → list_all (λ c. not (eqb c 62)) xs ≡ true
-list_front [] ys h = refl
-list_front (x ∷ xs) ys h = grind (arith, nat_tests, list_front xs ys)
-
-lowered_close : (text : List Placed) → list_all (λ c. not (eqb c 62)) (lowered text) ≡ true → no_close text ≡ true
-lowered_close [] h = refl
-lowered_close (p ∷ ps) h = grind (arith, nat_tests, lowered_close ps)
-
-opened_close : (so : Opened) (text : List Placed) → IsOpened so text → no_close text ≡ true
-opened_close opened.Nothing text h = ap no_close h
-opened_close opened.Dash text h = ap (list_all (λ c. not (eqb c 62))) h
-opened_close opened.Doctype text (first, (c, left, is)) = lowered_close text (list_front (lowered text) (c ∷ left) (ap (list_all (λ x. not (eqb x 62))) is))
-opened_close opened.Cdata text (first, (c, left, is)) = list_front (characters text) (c ∷ left) (ap (list_all (λ x. not (eqb x 62))) is)
-
-before_close : (text : List Placed) → no_close text ≡ true → text ≡ before closes_bogus (text ++ greater ∷ [])
+before_close : (text : List Placed) → all is_plain_in_bogus text ≡ true → text ≡ before closes_bogus (text ++ greater ∷ [])
 before_close [] h = refl
 before_close (p ∷ ps) h = grind (arith, nat_tests, before_close ps)
 
@@ -194,13 +160,13 @@ module _ (table : Entities) (is_table : IsTable table) (start : RawKind) (names 
       let c = closed_doctype t.doctype i.body (greater ∷ []) i.own i.has_read refl in
       in_markup HasReadDoctype IsDoctype doctype_token t.doctype i greater [] c.value c.errors (c.is_span 0 []) plain
 
-  in_markup_declaration : (bang : ℕ) (so : Opened) → h.held ≡ less t ∷ record { ch = 33; at = bang } ∷ t.held.items → IsOpened so t.held.items → h.here.kind ≡ kind.None → Begins
-  in_markup_declaration bang so held is plain =
+  in_markup_declaration : (bang : ℕ) → h.held ≡ less t ∷ record { ch = 33; at = bang } ∷ t.held.items → OpensNothing t.held.items → h.here.kind ≡ kind.None → Begins
+  in_markup_declaration bang held is plain =
       let opening : List Placed = less t ∷ record { ch = 33; at = bang } ∷ [] in
       let body : List Placed = t.held.items ++ greater ∷ [] in
-      let none : is_declaration (body ++ []) ≡ false = ap is_declaration (append-nil body) ∙ no_declaration t.held.items [] (nothing_at_end so t.held.items is) in
+      let none : is_declaration (body ++ []) ≡ false = ap is_declaration (append-nil body) ∙ bogus_at t.held.items greater [] is.none refl in
       let span : Span = comment_span 0 opening body (text_bytes t.held.items) (error IncorrectlyOpenedComment (place 0 (body ++ [])) ∷ null_errors t.held.items) in
-      let bogus : IsBogus [] body (text_bytes t.held.items) (null_errors t.held.items) = closed_bogus t.held.items (greater ∷ []) refl (before_close t.held.items (opened_close so t.held.items is)) refl refl refl in
+      let bogus : IsBogus [] body (text_bytes t.held.items) (null_errors t.held.items) = closed_bogus t.held.items (greater ∷ []) refl (before_close t.held.items is.plain) refl refl refl in
       inside (greater ∷ []) [] 0 span refl (ap (λ (x : List Placed). x ++ greater ∷ []) (sym held)) (in_data table 0 h.here [] span plain (d.bogus_declaration opening body (text_bytes t.held.items) (null_errors t.held.items) refl none bogus refl))
 
   in_tag : IsInMarkedTag table names h.here t h.held [] → Begins
@@ -248,7 +214,7 @@ module _ (table : Entities) (is_table : IsTable table) (start : RawKind) (names 
   by_state state.Text is_in has = nothing has.0
   by_state state.TagOpen is_in has = marked tag.Start (less t ∷ []) has.0 refl is_in
   by_state (state.EndTagOpen at) is_in has = marked tag.End (less t ∷ record { ch = 47; at = at } ∷ []) has.0 refl is_in
-  by_state (state.MarkupDeclarationOpen bang so) is_in has = in_markup_declaration bang so has.0 has.2 is_in
+  by_state (state.MarkupDeclarationOpen bang) is_in has = in_markup_declaration bang has.0 has.2 is_in
   by_state state.Comment is_in (which, i) = in_comment which i is_in
   by_state state.Doctype is_in has = in_doctype has is_in
   by_state state.Tag is_in has = in_tag has

@@ -6,7 +6,7 @@ pub held_place : (s : State) (table : Entities) (names : Texts) (here : Standing
 held_place state.Text table names here t held h = ap (place t.next) (sym h.0)
 held_place state.TagOpen table names here t held h = ap (place t.next) (sym h.0)
 held_place (state.EndTagOpen at) table names here t held h = ap (place t.next) (sym h.0)
-held_place (state.MarkupDeclarationOpen at so) table names here t held h = ap (place t.next) (sym h.0)
+held_place (state.MarkupDeclarationOpen at) table names here t held h = ap (place t.next) (sym h.0)
 held_place state.Comment table names here t held (kind, h) = ap (place t.next) (sym h.starts)
 held_place state.Doctype table names here t held h = ap (place t.next) (sym h.starts)
 held_place state.Tag table names here t held h = ap (place t.next) (sym h.held_is)
@@ -20,7 +20,7 @@ pub from_held : (s : State) (t : Tokenizer) → (s ≡ state.Text → ⊥) → (
 from_held state.Text t text run = absurd (text refl)
 from_held state.TagOpen t text run = refl
 from_held (state.EndTagOpen at) t text run = refl
-from_held (state.MarkupDeclarationOpen at so) t text run = refl
+from_held (state.MarkupDeclarationOpen at) t text run = refl
 from_held state.Comment t text run = refl
 from_held state.Doctype t text run = refl
 from_held state.Tag t text run = refl

@@ -7,9 +7,9 @@ use crate::hand::give_tag;
 use crate::sink::TokenSink;
 use crate::state::State;
 use crate::token::Token;
-use crate::tokenizer::Tokenizer;
+use crate::tokenizer::{Taken, Tokenizer};
 use htag::{bare_name, is_bare, tag_name};
-use names::{Names, RawKind, Refusal, Tag};
+use names::{Names, RawKind, Tag};
 use std::alloc::AllocError;
 
 /// Whether data comes after a start tag of this name, which is in the profile.
@@ -30,7 +30,7 @@ impl<'t> Tokenizer<'t> {
         run: &str,
         at: u64,
         sink: &mut S,
-    ) -> Result<usize, Refusal>
+    ) -> Taken
         requires less { self.old.state ≡ State.TagOpen }
         requires some { 0 < length run.now }
         requires within { at + length run.now ≤ MAX_INPUT }
@@ -61,7 +61,7 @@ impl<'t> Tokenizer<'t> {
         run: &str,
         at: u64,
         sink: &mut S,
-    ) -> Result<usize, Refusal>
+    ) -> Taken
         requires less { self.old.state ≡ State.TagOpen }
         requires some { 0 < length run.now }
         requires solidus { slice_index run.now 0 ≡ 47 }
@@ -87,7 +87,7 @@ impl<'t> Tokenizer<'t> {
         run: &str,
         at: u64,
         sink: &mut S,
-    ) -> Result<usize, Refusal>
+    ) -> Taken
         requires less { self.old.state ≡ State.TagOpen }
         requires bare { IsBareName run.now size }
         requires within { at + length run.now ≤ MAX_INPUT }

@@ -4,12 +4,11 @@ ghost use Rattle.std.specs.Prelude.{◌≡◌, ◌∷◌, ◌++◌, ℕ, List, [
 ghost use Rattle.htoken.specs.Vocabulary.{is_script, level_number, Character, CutsOff, EndsHeld, EndsRead, Entities, Eof, EofBeforeTagName, Event, Finishes, Gives, gives_item, Grows, HandsEvents, HasTaken, IsInTag, Kind, less, Reports, script_errors, Texts};
 
 use crate::hand::{give, give_faulty, hand_errors, tell_if};
-use crate::markup_declaration_open::Opened;
 use crate::sink::TokenSink;
 use crate::state::State;
 use crate::token::Token;
-use crate::tokenizer::Tokenizer;
-use names::{ErrorCode, Names, ParseError, RawKind, Refusal};
+use crate::tokenizer::{Answer, Tokenizer};
+use names::{ErrorCode, Names, ParseError, RawKind};
 
 impl<'t> Tokenizer<'t> {
     /// Ends what is held, and hands over the end.
@@ -18,7 +17,7 @@ impl<'t> Tokenizer<'t> {
         names: &mut Names,
         end: u64,
         sink: &mut S,
-    ) -> Result<(), Refusal>
+    ) -> Answer
         ensures finishes { (table : Entities) (start : Kind) (before : Texts) (text : List Character) (taken : List Event) → Grows before names.old
             → HasTaken table start self.old before text taken
             → Finishes (gives_item S.gives S.gives_token) table start end text taken names.new sink.old result sink.new }
@@ -29,12 +28,7 @@ impl<'t> Tokenizer<'t> {
     }
 
     /// Hands over what is held as what it is where the input ends.
-    fn end_held<S: TokenSink>(
-        &mut self,
-        names: &mut Names,
-        end: u64,
-        sink: &mut S,
-    ) -> Result<(), Refusal>
+    fn end_held<S: TokenSink>(&mut self, names: &mut Names, end: u64, sink: &mut S) -> Answer
         ensures ends { (table : Entities) (start : Kind) (before : Texts) (text : List Character) (taken : List Event) → Grows before names.old
             → HasTaken table start self.old before text taken
             → EndsHeld (gives_item S.gives S.gives_token) table start end text taken names.new sink.old result self.new sink.new }
@@ -47,9 +41,7 @@ impl<'t> Tokenizer<'t> {
                 give_faulty(ErrorCode::EofBeforeTagName, end, '<', self.at, sink)?;
                 give('/', solidus, sink)
             }
-            State::MarkupDeclarationOpen(bang, so) => self.end_in_markup_declaration_open(
-                bang, so, end, sink,
-            ),
+            State::MarkupDeclarationOpen(_) => self.end_in_markup_declaration_open(end, sink),
             State::Comment => self.end_in_comment(end, sink),
             State::Doctype => self.end_in_doctype(end, sink),
             State::Reference => self.end_in_reference(sink),
@@ -64,14 +56,8 @@ impl<'t> Tokenizer<'t> {
     }
 
     /// What comes after `<!` is read as a comment that ends where the input does.
-    fn end_in_markup_declaration_open<S: TokenSink>(
-        &mut self,
-        bang: u64,
-        so: Opened,
-        end: u64,
-        sink: &mut S,
-    ) -> Result<(), Refusal>
-        requires { self.old.state ≡ State.MarkupDeclarationOpen bang so }
+    fn end_in_markup_declaration_open<S: TokenSink>(&mut self, end: u64, sink: &mut S) -> Answer
+        requires { (bang : ℕ) × (self.old.state ≡ State.MarkupDeclarationOpen bang) }
         ensures { EndsRead (gives_item S.gives S.gives_token) self.old end sink.old result self.new sink.new }
     {
         self.begin_held(ErrorCode::IncorrectlyOpenedComment, end)?;
@@ -80,7 +66,7 @@ impl<'t> Tokenizer<'t> {
     }
 
     /// A comment ends where the input does.
-    fn end_in_comment<S: TokenSink>(&mut self, end: u64, sink: &mut S) -> Result<(), Refusal>
+    fn end_in_comment<S: TokenSink>(&mut self, end: u64, sink: &mut S) -> Answer
         requires { self.old.state ≡ State.Comment }
         ensures { EndsRead (gives_item S.gives S.gives_token) self.old end sink.old result self.new sink.new }
     {
@@ -89,7 +75,7 @@ impl<'t> Tokenizer<'t> {
     }
 
     /// A doctype ends where the input does.
-    fn end_in_doctype<S: TokenSink>(&mut self, end: u64, sink: &mut S) -> Result<(), Refusal>
+    fn end_in_doctype<S: TokenSink>(&mut self, end: u64, sink: &mut S) -> Answer
         requires { self.old.state ≡ State.Doctype }
         ensures { EndsRead (gives_item S.gives S.gives_token) self.old end sink.old result self.new sink.new }
     {
@@ -98,7 +84,7 @@ impl<'t> Tokenizer<'t> {
     }
 
     /// A reference ends where the input does; what does not belong to it is text.
-    fn end_in_reference<S: TokenSink>(&mut self, sink: &mut S) -> Result<(), Refusal>
+    fn end_in_reference<S: TokenSink>(&mut self, sink: &mut S) -> Answer
         requires { self.old.state ≡ State.Reference }
         ensures { (end : ℕ) → EndsRead (gives_item S.gives S.gives_token) self.old end sink.old result self.new sink.new }
     {
@@ -107,12 +93,7 @@ impl<'t> Tokenizer<'t> {
     }
 
     /// A tag that the end cuts off gives no token.
-    fn cut_off<S: TokenSink>(
-        &mut self,
-        names: &mut Names,
-        end: u64,
-        sink: &mut S,
-    ) -> Result<(), Refusal>
+    fn cut_off<S: TokenSink>(&mut self, names: &mut Names, end: u64, sink: &mut S) -> Answer
         ensures cuts { (table : Entities) (body : List Character) → IsInTag table names.old self.old.tag body [] self.old.raised.errors.items
             → CutsOff (gives_item S.gives S.gives_token) table body end sink.old result self.new sink.new }
         ensures grows { Grows names.old names.new }
@@ -127,7 +108,7 @@ impl<'t> Tokenizer<'t> {
     }
 
     /// Hands over the end, and before it the error of a script that it cuts off in comment-like text.
-    fn give_end<S: TokenSink>(&mut self, end: u64, sink: &mut S) -> Result<(), Refusal>
+    fn give_end<S: TokenSink>(&mut self, end: u64, sink: &mut S) -> Answer
         ensures { (names : Texts) → HandsEvents (gives_item S.gives S.gives_token) names sink.old
             (map Reports (script_errors end self.old) ++ Gives (Eof end) ∷ []) result sink.new }
     {

@@ -11,7 +11,7 @@ use crate::run::after_last;
 use crate::sink::TokenSink;
 use crate::state::State;
 use crate::text::allows_references;
-use crate::tokenizer::{Tokenizer, after};
+use crate::tokenizer::{Answer, Taken, Tokenizer, after};
 use charref::{Reference, Table, Walk};
 use hmarkup::ErrorSink;
 use htext::{alphanumeric_run, text_run};
@@ -29,12 +29,7 @@ pub(crate) enum Ampersand {
 
 /// Hands over the error of an `&` that is text, if it has one: it is of this length with the letters and digits after it.
 #[inline(always)]
-pub(crate) fn tell_bare<S: ErrorSink>(
-    run: &str,
-    size: usize,
-    at: u64,
-    sink: &mut S,
-) -> Result<(), Refusal>
+pub(crate) fn tell_bare<S: ErrorSink>(run: &str, size: usize, at: u64, sink: &mut S) -> Answer
     requires some { 0 < size }
     requires within { size < length run.now }
     ensures { (table : Entities) (kind : Kind) (is : IsBare table kind run.now size)
@@ -112,12 +107,7 @@ pub(crate) fn at_ampersand(table: &Table, kind: RawKind, run: &str) -> Ampersand
 impl<'t> Tokenizer<'t> {
     /// Takes the text at the front of a run where nothing is held, with the whole references in it as far as the sink takes them so, and what
     /// ends it: a `<`, or an `&`, and with it the whole reference if the run shows it. Returns the length.
-    pub(crate) fn part_of_text<S: TokenSink>(
-        &mut self,
-        run: &str,
-        at: u64,
-        sink: &mut S,
-    ) -> Result<usize, Refusal>
+    pub(crate) fn part_of_text<S: TokenSink>(&mut self, run: &str, at: u64, sink: &mut S) -> Taken
         requires text { self.old.state ≡ State.Text }
         requires some { 0 < length run.now }
         requires clean { list_all is_clean (chars run.now) ≡ true }
@@ -143,7 +133,7 @@ impl<'t> Tokenizer<'t> {
         run: &str,
         at: u64,
         sink: &mut S,
-    ) -> Result<usize, Refusal>
+    ) -> Taken
         requires text { self.old.state ≡ State.Text }
         requires clean { list_all is_clean (chars run.now) ≡ true }
         requires within { at + length run.now ≤ MAX_INPUT }
@@ -198,7 +188,7 @@ impl<'t> Tokenizer<'t> {
         run: &str,
         at: u64,
         sink: &mut S,
-    ) -> Result<usize, Refusal>
+    ) -> Taken
         requires text { self.old.state ≡ State.Text }
         requires some { 0 < length run.now }
         requires within { at + length run.now ≤ MAX_INPUT }
@@ -220,7 +210,7 @@ impl<'t> Tokenizer<'t> {
 
     /// Gives the text at the front of a run, if there is any.
     #[inline(always)]
-    fn give_text<S: TokenSink>(&mut self, front: &str, at: u64, sink: &mut S) -> Result<(), Refusal>
+    fn give_text<S: TokenSink>(&mut self, front: &str, at: u64, sink: &mut S) -> Answer
         requires clean { list_all is_clean (chars front.now) ≡ true }
         requires within { at + length front.now ≤ MAX_INPUT }
         ensures handed { Hands S.gives_token sink.old (run_tokens (placed at (chars front.now))) result sink.new }
@@ -242,7 +232,7 @@ impl<'t> Tokenizer<'t> {
         run: &str,
         at: u64,
         sink: &mut S,
-    ) -> Result<usize, Refusal>
+    ) -> Taken
         requires text { self.old.state ≡ State.Text }
         requires whole { IfSome whole (λ it. IsWhole self.old.table.now self.old.kind run.now it.0 it.1) }
         requires some { 0 < length run.now }
@@ -270,7 +260,7 @@ impl<'t> Tokenizer<'t> {
         run: &str,
         at: u64,
         sink: &mut S,
-    ) -> Result<(), Refusal>
+    ) -> Answer
         requires text { self.old.state ≡ State.Text }
         requires whole { IsWhole self.old.table.now self.old.kind run.now found.now count }
         requires within { at + length run.now ≤ MAX_INPUT }

@@ -1,13 +1,13 @@
 //! What follows `<!`, comments and doctypes (HTML Standard, `#bogus-comment-state` to `#bogus-doctype-state`).
 
-ghost use Rattle.std.specs.Prelude.{◌≡◌, ◌∷◌, List, [], true, length, MatchResult};
+ghost use Rattle.std.specs.Prelude.{◌≡◌, ◌∷◌, ℕ, List, [], true, MatchResult};
 ghost use Rattle.htoken.specs.Vocabulary.{all, BeginsBogus, Character, Comment, EndsDoctype, Entities, error, Event, gives_item, GivesSpan, HandedMeans, is_plain_in_bogus, Kind, place, Reader, Reads, Takes, TakesNext, Texts};
 
-use crate::markup_declaration_open::{Opened, Opens, plain_front};
+use crate::markup_declaration_open::{Opens, is_plain, opened_by, plain_front};
 use crate::sink::TokenSink;
 use crate::state::State;
 use crate::token::Token;
-use crate::tokenizer::Tokenizer;
+use crate::tokenizer::{Answer, Tokenizer};
 use hmarkup::{CommentWalk, DoctypeWalk};
 use names::{ErrorCode, ParseError, Refusal};
 use std::mem;
@@ -16,20 +16,20 @@ impl<'t> Tokenizer<'t> {
     /// The markup declaration open state (`#markup-declaration-open-state`), after `<!`.
     pub(crate) fn markup_declaration_open<S: TokenSink>(
         &mut self,
-        bang: u64,
-        so: Opened,
         ch: char,
         at: u64,
         sink: &mut S,
-    ) -> Result<(), Refusal>
-        requires { self.old.state ≡ State.MarkupDeclarationOpen bang so }
+    ) -> Answer
+        requires { (bang : ℕ) × (self.old.state ≡ State.MarkupDeclarationOpen bang) }
         ensures { TakesNext (gives_item S.gives S.gives_token) self.old (record { ch = ch; at = at }) sink.old result sink.new self.new }
     {
-        match so.after(self.held_count(), ch) {
-            Opens::Front(so) => {
-                self.state = State::MarkupDeclarationOpen(bang, so);
-                self.hold(ch, at)
-            }
+        if !is_plain(ch) {
+            self.begin_held(ErrorCode::IncorrectlyOpenedComment, at)?;
+            return self.in_comment(ch, at, sink);
+        }
+        self.hold(ch, at)?;
+        match opened_by(&self.held) {
+            Opens::Nothing => Ok(()),
             Opens::Comment => {
                 self.comment = CommentWalk::comment(self.alloc);
                 self.state = State::Comment;
@@ -40,19 +40,13 @@ impl<'t> Tokenizer<'t> {
                 self.state = State::Doctype;
                 Ok(())
             }
-            Opens::Cdata => {
-                self.hold(ch, at)?;
-                self.begin_held(ErrorCode::CdataInHtmlContent, at)
-            }
-            Opens::Bogus => {
-                self.begin_held(ErrorCode::IncorrectlyOpenedComment, at)?;
-                self.in_comment(ch, at, sink)
-            }
+            Opens::Cdata => self.begin_held(ErrorCode::CdataInHtmlContent, at),
+            Opens::Bogus => self.begin_held(ErrorCode::IncorrectlyOpenedComment, at),
         }
     }
 
     /// Begins what is read as a comment with the characters that are held after `<!`. The error is at the first of them, or here.
-    pub(crate) fn begin_held(&mut self, code: ErrorCode, at: u64) -> Result<(), Refusal>
+    pub(crate) fn begin_held(&mut self, code: ErrorCode, at: u64) -> Answer
         ensures { MatchResult result (λ _. (self.new.state ≡ State.Comment) × (all is_plain_in_bogus self.old.held.items ≡ true
             → BeginsBogus self.old self.old.held.items (error code (place at self.old.held.items)) self.new)) (λ refusal. refusal ≡ Refusal.Memory) }
     {
@@ -71,7 +65,7 @@ impl<'t> Tokenizer<'t> {
         ch: char,
         at: u64,
         sink: &mut S,
-    ) -> Result<(), Refusal>
+    ) -> Answer
         ensures { (table : Entities) (start : Kind) (names : Texts) (text : List Character) (taken : List Event)
             → Reads table start self.old names text (record { ch = ch; at = at } ∷ []) taken
             → ((new : Reader) → BeginsBogus self.old [] (error code at) new → Reads table start new names text (record { ch = ch; at = at } ∷ []) taken)
@@ -81,13 +75,6 @@ impl<'t> Tokenizer<'t> {
         self.comment = CommentWalk::bogus(self.alloc);
         self.state = State::Comment;
         self.in_comment(ch, at, sink)
-    }
-
-    /// How many characters are held after a mark.
-    fn held_count(&self) -> usize
-        ensures { result ≡ length self.now.held.items }
-    {
-        self.held.len()
     }
 
     /// The place of the first character that is held after `<!`, or this one.
@@ -101,12 +88,7 @@ impl<'t> Tokenizer<'t> {
     }
 
     /// Takes a character of a comment.
-    pub(crate) fn in_comment<S: TokenSink>(
-        &mut self,
-        ch: char,
-        at: u64,
-        sink: &mut S,
-    ) -> Result<(), Refusal>
+    pub(crate) fn in_comment<S: TokenSink>(&mut self, ch: char, at: u64, sink: &mut S) -> Answer
         requires { self.old.state ≡ State.Comment }
         ensures { TakesNext (gives_item S.gives S.gives_token) self.old (record { ch = ch; at = at }) sink.old result sink.new self.new }
     {
@@ -118,7 +100,7 @@ impl<'t> Tokenizer<'t> {
     }
 
     /// Hands over the comment that has ended.
-    pub(crate) fn end_comment<S: TokenSink>(&mut self, sink: &mut S) -> Result<(), Refusal>
+    pub(crate) fn end_comment<S: TokenSink>(&mut self, sink: &mut S) -> Answer
         ensures { GivesSpan (gives_item S.gives S.gives_token) (λ names token. HandedMeans names token (Comment self.old.comment.data self.old.at)) self.old
             sink.old result self.new sink.new }
     {
@@ -129,12 +111,7 @@ impl<'t> Tokenizer<'t> {
     }
 
     /// Takes a character of a doctype.
-    pub(crate) fn in_doctype<S: TokenSink>(
-        &mut self,
-        ch: char,
-        at: u64,
-        sink: &mut S,
-    ) -> Result<(), Refusal>
+    pub(crate) fn in_doctype<S: TokenSink>(&mut self, ch: char, at: u64, sink: &mut S) -> Answer
         requires { self.old.state ≡ State.Doctype }
         ensures { TakesNext (gives_item S.gives S.gives_token) self.old (record { ch = ch; at = at }) sink.old result sink.new self.new }
     {
@@ -146,7 +123,7 @@ impl<'t> Tokenizer<'t> {
     }
 
     /// Hands over the doctype that has ended.
-    pub(crate) fn end_doctype<S: TokenSink>(&mut self, sink: &mut S) -> Result<(), Refusal>
+    pub(crate) fn end_doctype<S: TokenSink>(&mut self, sink: &mut S) -> Answer
         ensures { EndsDoctype (gives_item S.gives S.gives_token) self.old sink.old result self.new sink.new }
     {
         let walk = mem::replace(&mut self.doctype, DoctypeWalk::new(self.alloc));

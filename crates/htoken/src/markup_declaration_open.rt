@@ -1,94 +1,84 @@
 //! What `<!` begins: a comment, a doctype, or what is read as a comment (HTML Standard, `#markup-declaration-open-state`).
 
-ghost use Rattle.std.specs.Prelude.{◌≡◌, ◌∷◌, ◌++◌, [], List, length, true};
-ghost use Rattle.htoken.specs.Vocabulary.{all, Character, front_of, is_plain_in_bogus, IsOpened, OpensAs};
+ghost use Rattle.std.specs.Prelude.{◌≡◌, ◌==◌, true};
+ghost use Rattle.htoken.specs.Vocabulary.{all, is_plain_in_bogus, OpensAs, read_as, spells_as};
 
 use names::Placed;
 
-/// What the characters after `<!` are a front of (`#markup-declaration-open-state`).
-#[derive(Clone, Copy)]
-pub(crate) enum Opened {
-    /// Of anything: there are none.
-    Nothing,
-    /// `-` of `--`
-    Dash,
-    /// `DOCTYPE`, in any case.
-    Doctype,
-    /// `[CDATA[`
-    Cdata,
-}
-
-/// What they are with one more character.
+/// What the characters after `<!` open.
 #[derive(Clone, Copy)]
 pub(crate) enum Opens {
-    /// A front of this.
-    Front(Opened),
-    /// The mark of a comment.
+    /// Nothing yet: they are too few.
+    Nothing,
+    /// A comment: they are its mark.
     Comment,
-    /// The mark of a doctype.
+    /// A doctype.
     Doctype,
-    /// The mark of a CDATA section, which is a bogus comment: only foreign elements have one (`#markup-declaration-open-state`).
+    /// A CDATA section, which is a bogus comment: only foreign elements have one (`#markup-declaration-open-state`).
     Cdata,
-    /// None of them.
+    /// None of these, so a bogus comment.
     Bogus,
 }
 
-/// What a word's front is with one more character.
-#[derive(Clone, Copy)]
-pub(crate) enum WordMatch {
-    Front,
-    Whole,
-    Other,
-}
+/// How many characters show what `<!` opens: `doctype` and `[CDATA[` have as many.
+const ENOUGH: usize = 7;
 
-/// What the first `count` characters of a word are with this one.
-fn match_word(word: &[u8], count: usize, ch: char) -> WordMatch
-    ensures { result ≡ front_of word.now count ch }
+/// Whether a character is this byte of a word, which is in lower case if the character may be in any case.
+fn is_read_as(ch: char, byte: u8, any_case: bool) -> bool
+    ensures { result ≡ (read_as any_case ch == byte) }
 {
-    if count >= word.len() || u32::from(ch) != u32::from(word[count]) {
-        WordMatch::Other
-    } else if count + 1 < word.len() {
-        WordMatch::Front
-    } else {
-        WordMatch::Whole
+    if any_case {
+        return u32::from(ch.to_ascii_lowercase()) == u32::from(byte);
     }
+    u32::from(ch) == u32::from(byte)
 }
 
-impl Opened {
-    /// What `count` characters after `<!` are with one more.
-    pub fn after(self, count: usize, ch: char) -> Opens
-        ensures { (text : List Character) (p : Character) → p.ch ≡ ch → count ≡ length text → IsOpened self text → OpensAs result (text ++ p ∷ []) }
-    {
-        match self {
-            Opened::Nothing => match ch {
-                '-' => Opens::Front(Opened::Dash),
-                'd' | 'D' => Opens::Front(Opened::Doctype),
-                '[' => Opens::Front(Opened::Cdata),
-                _ => Opens::Bogus,
-            },
-            Opened::Dash if ch == '-' => Opens::Comment,
-            Opened::Dash => Opens::Bogus,
-            Opened::Doctype => match match_word(b"doctype", count, ch.to_ascii_lowercase()) {
-                WordMatch::Front => Opens::Front(Opened::Doctype),
-                WordMatch::Whole => Opens::Doctype,
-                WordMatch::Other => Opens::Bogus,
-            },
-            Opened::Cdata => match match_word(b"[CDATA[", count, ch) {
-                WordMatch::Front => Opens::Front(Opened::Cdata),
-                WordMatch::Whole => Opens::Cdata,
-                WordMatch::Other => Opens::Bogus,
-            },
+/// Whether a text begins with a word, in any case or as it is.
+fn spells(word: &[u8], text: &[Placed], any_case: bool) -> bool
+    ensures { result ≡ spells_as any_case word.now text.now }
+{
+    if text.len() < word.len() {
+        return false;
+    }
+    for (index, byte) in word.iter().enumerate() {
+        if !is_read_as(text[index].ch, *byte, any_case) {
+            return false;
         }
     }
+    true
 }
 
-/// The front of a text before the first `>` or NUL. What is held after `<!` has neither: it is the front of a mark.
+/// What a text after `<!` opens, which opened nothing without its last character.
+pub(crate) fn opened_by(text: &[Placed]) -> Opens
+    ensures { OpensAs result text.now }
+{
+    if spells(b"--", text, false) {
+        Opens::Comment
+    } else if text.len() < ENOUGH {
+        Opens::Nothing
+    } else if spells(b"doctype", text, true) {
+        Opens::Doctype
+    } else if spells(b"[CDATA[", text, false) {
+        Opens::Cdata
+    } else {
+        Opens::Bogus
+    }
+}
+
+/// Whether a character neither ends a bogus comment nor is a fault in it. No mark has one that does.
+pub(crate) fn is_plain(ch: char) -> bool
+    ensures { result ≡ is_plain_in_bogus ch }
+{
+    ch != '>' && ch != '\0'
+}
+
+/// The front of a text before the first character that is not plain. What is held after `<!` has none.
 pub(crate) fn plain_front(text: &[Placed]) -> &[Placed]
     ensures plain { all is_plain_in_bogus result.now ≡ true }
     ensures whole { all is_plain_in_bogus text.now ≡ true → result.now ≡ text.now }
 {
     for (index, p) in text.iter().enumerate() {
-        if p.ch == '>' || p.ch == '\0' {
+        if !is_plain(p.ch) {
             return &text[..index];
         }
     }

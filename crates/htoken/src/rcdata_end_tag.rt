@@ -7,7 +7,7 @@ use crate::hand::{give, give_all};
 use crate::script::{agrees, ends_name};
 use crate::sink::TokenSink;
 use crate::state::State;
-use crate::tokenizer::Tokenizer;
+use crate::tokenizer::{Answer, Tokenizer};
 use names::{Names, Placed, Refusal};
 
 impl<'t> Tokenizer<'t> {
@@ -18,7 +18,7 @@ impl<'t> Tokenizer<'t> {
         ch: char,
         at: u64,
         sink: &mut S,
-    ) -> Result<(), Refusal>
+    ) -> Answer
         requires { self.old.state ≡ State.RcdataLessThanSign }
         ensures { TakesNext (gives_item S.gives S.gives_token) self.old (record { ch = ch; at = at }) sink.old result sink.new self.new }
     {
@@ -44,7 +44,7 @@ impl<'t> Tokenizer<'t> {
         ch: char,
         at: u64,
         sink: &mut S,
-    ) -> Result<(), Refusal>
+    ) -> Answer
         requires { self.old.state ≡ State.RcdataEndTagName solidus }
         ensures takes { (table : Entities) (start : Kind) (before : Texts) (text : List Character) (taken : List Event) → Grows before names.old
             → Reads table start self.old before text (record { ch = ch; at = at } ∷ []) taken
@@ -72,13 +72,7 @@ impl<'t> Tokenizer<'t> {
     }
 
     /// Takes a character that shows what is held in raw text to be no end tag.
-    fn after_held<S: TokenSink>(
-        &mut self,
-        solidus: u64,
-        ch: char,
-        at: u64,
-        sink: &mut S,
-    ) -> Result<(), Refusal>
+    fn after_held<S: TokenSink>(&mut self, solidus: u64, ch: char, at: u64, sink: &mut S) -> Answer
         requires { self.old.state ≡ State.RcdataEndTagName solidus }
         ensures { ((more : List Character) → name_ends (string_bytes self.old.tag.name) (self.old.held.items ++ record { ch = ch; at = at } ∷ more) ≡ false)
             → TakesNext (gives_item S.gives S.gives_token) self.old (record { ch = ch; at = at }) sink.old result sink.new self.new }
@@ -88,7 +82,7 @@ impl<'t> Tokenizer<'t> {
     }
 
     /// Holds a character.
-    pub(crate) fn hold(&mut self, ch: char, at: u64) -> Result<(), Refusal>
+    pub(crate) fn hold(&mut self, ch: char, at: u64) -> Answer
         ensures { MatchResult result (λ _. Holds self.old (record { ch = ch; at = at }) self.new) (λ refusal. refusal ≡ Refusal.Memory) }
     {
         self.held.push(Placed { ch, at })?;
@@ -103,11 +97,7 @@ impl<'t> Tokenizer<'t> {
     }
 
     /// Hands over what is held in raw text as characters: it is no end tag.
-    pub(crate) fn give_held<S: TokenSink>(
-        &mut self,
-        solidus: u64,
-        sink: &mut S,
-    ) -> Result<(), Refusal>
+    pub(crate) fn give_held<S: TokenSink>(&mut self, solidus: u64, sink: &mut S) -> Answer
         ensures handed { (names : Texts) → HandsEvents (gives_item S.gives S.gives_token) names sink.old (run_events (held_in_raw solidus self.old)) result
             sink.new }
         ensures then { self.new ≡ record self.old { state = State.Text; script = self.new.script } }

@@ -7,9 +7,9 @@ ghost use Rattle.htoken.specs.Vocabulary.{BeginsReference, Character, Entities, 
 use crate::hand::{after_first, give, give_all, give_piece, tell_unknown};
 use crate::sink::TokenSink;
 use crate::state::State;
-use crate::tokenizer::Tokenizer;
+use crate::tokenizer::{Answer, Tokenizer};
 use charref::{Reference, Walk};
-use names::{Placed, Refusal};
+use names::Placed;
 use std::alloc::AllocError;
 
 impl<'t> Tokenizer<'t> {
@@ -25,12 +25,7 @@ impl<'t> Tokenizer<'t> {
 
     /// The character reference state and the states after it (`#character-reference-state`), after `&`.
     #[inline(always)]
-    pub(crate) fn in_reference<S: TokenSink>(
-        &mut self,
-        ch: char,
-        at: u64,
-        sink: &mut S,
-    ) -> Result<(), Refusal>
+    pub(crate) fn in_reference<S: TokenSink>(&mut self, ch: char, at: u64, sink: &mut S) -> Answer
         requires { self.old.state ≡ State.Reference }
         ensures { TakesNext (gives_item S.gives S.gives_token) self.old (record { ch = ch; at = at }) sink.old result sink.new self.new }
     {
@@ -61,7 +56,7 @@ impl<'t> Tokenizer<'t> {
         ch: char,
         at: u64,
         sink: &mut S,
-    ) -> Result<(), Refusal>
+    ) -> Answer
         requires { self.old.state ≡ State.Reference }
         ensures { (table : Entities) (start : Kind) (names : Texts) (text : List Character) (taken : List Event)
             → Finds table self.old.reference (record { ch = ch; at = at }) found.now
@@ -96,7 +91,7 @@ impl<'t> Tokenizer<'t> {
         found: &Reference,
         count: usize,
         sink: &mut S,
-    ) -> Result<(), Refusal>
+    ) -> Answer
         ensures { (names : Texts) → HandsEvents (gives_item S.gives S.gives_token) names sink.old (read_events found.now self.now.at self.now.held.items count)
             result sink.new }
     {
@@ -112,7 +107,7 @@ impl<'t> Tokenizer<'t> {
         ch: char,
         at: u64,
         sink: &mut S,
-    ) -> Result<(), Refusal>
+    ) -> Answer
         requires { self.old.state ≡ State.AmbiguousAmpersand amp }
         ensures { (table : Entities) (start : Kind) (names : Texts) (text : List Character) (taken : List Event)
             → IsInAmbiguousAmpersand table start self.old names text (record { ch = ch; at = at } ∷ []) taken

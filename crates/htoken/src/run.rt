@@ -7,7 +7,7 @@ ghost use Rattle.htoken.specs.Vocabulary.{Character, Entities, Event, FeedsPart,
 
 use crate::sink::TokenSink;
 use crate::state::State;
-use crate::tokenizer::{Tokenizer, after};
+use crate::tokenizer::{Answer, Taken, Tokenizer, after};
 use names::{Names, Refusal};
 
 /// How many bytes are before the first one that may end a comment, or is a fault in it.
@@ -88,41 +88,23 @@ impl<'t> Tokenizer<'t> {
         if let Some(refusal) = self.refused {
             return Err(refusal);
         }
-        if count > 0 && self.takes_bad() {
-            self.bad_as_run(count, at, sink)
-        } else {
-            self.bad_by_one(names, count, at, sink)
+        if !self.takes_bad(count) {
+            return self.bad_by_one(names, count, at, sink);
         }
-    }
-
-    /// Whether the characters that replace bad bytes may be taken as a run: nothing is held, and no script is followed.
-    fn takes_bad(&self) -> bool
-        ensures takes { result ≡ true → (self.now.state ≡ State.Text) × (is_script self.now.kind ≡ false) }
-        ensures not { result ≡ false → self.now.state ≡ State.Text → is_script self.now.kind ≡ true }
-    {
-        matches!(self.state, State::Text) && !self.is_in_script()
-    }
-
-    /// Takes them as a run.
-    fn bad_as_run<S: TokenSink>(
-        &mut self,
-        count: usize,
-        at: u64,
-        sink: &mut S,
-    ) -> Result<(), Refusal>
-        requires text { self.old.state ≡ State.Text }
-        requires other { is_script self.old.kind ≡ false }
-        requires some { 0 < count }
-        requires within { at + count ≤ MAX_INPUT }
-        ensures takes { (names : Texts) → FeedsText (gives_item S.gives S.gives_token) self.old names (replacement_run at count) names sink.old result sink.new
-            self.new }
-        ensures refused { IfErr result (λ refusal. self.new.refused ≡ Some refusal) }
-    {
         self.next = at + count as u64;
-        match sink.take_bad(count, at) {
-            Ok(()) => Ok(()),
-            Err(refusal) => self.refuse(refusal),
+        let answer = sink.take_bad(count, at);
+        if let Err(refusal) = answer {
+            self.refused = Some(refusal);
         }
+        answer
+    }
+
+    /// Whether the characters that replace so many bad bytes may be taken as a run: nothing is held, and no script is followed.
+    fn takes_bad(&self, count: usize) -> bool
+        ensures takes { result ≡ true → (0 < count) × (self.now.state ≡ State.Text) × (is_script self.now.kind ≡ false) }
+        ensures not { result ≡ false → 0 < count → self.now.state ≡ State.Text → is_script self.now.kind ≡ true }
+    {
+        count > 0 && matches!(self.state, State::Text) && !self.is_in_script()
     }
 
     /// Takes them one by one.
@@ -132,7 +114,7 @@ impl<'t> Tokenizer<'t> {
         count: usize,
         at: u64,
         sink: &mut S,
-    ) -> Result<(), Refusal>
+    ) -> Answer
         requires within { at + count ≤ MAX_INPUT }
         ensures takes { FeedsText (gives_item S.gives S.gives_token) self.old names.old (replacement_run at count) names.new sink.old result sink.new self.new }
         ensures grows { Grows names.old names.new }
@@ -153,7 +135,7 @@ impl<'t> Tokenizer<'t> {
         run: &str,
         at: u64,
         sink: &mut S,
-    ) -> Result<(), Refusal>
+    ) -> Answer
         requires clean { list_all is_clean (chars run.now) ≡ true }
         requires within { at + length run.now ≤ MAX_INPUT }
         ensures takes { FeedsText (gives_item S.gives S.gives_token) self.old names.old (placed at (chars run.now))
@@ -177,7 +159,7 @@ impl<'t> Tokenizer<'t> {
         run: &str,
         at: u64,
         sink: &mut S,
-    ) -> Result<usize, Refusal>
+    ) -> Taken
         requires some { 0 < length run.now }
         requires clean { list_all is_clean (chars run.now) ≡ true }
         requires within { at + length run.now ≤ MAX_INPUT }
@@ -206,7 +188,7 @@ impl<'t> Tokenizer<'t> {
         run: &str,
         at: u64,
         sink: &mut S,
-    ) -> Result<usize, Refusal>
+    ) -> Taken
         requires text { self.old.state ≡ State.Text }
         requires some { 0 < length run.now }
         requires clean { list_all is_clean (chars run.now) ≡ true }
@@ -231,7 +213,7 @@ impl<'t> Tokenizer<'t> {
         run: &str,
         at: u64,
         sink: &mut S,
-    ) -> Result<usize, Refusal>
+    ) -> Taken
         requires tag { self.old.state ≡ State.Tag }
         requires some { 0 < length run.now }
         requires clean { list_all is_clean (chars run.now) ≡ true }
@@ -259,7 +241,7 @@ impl<'t> Tokenizer<'t> {
         run: &str,
         at: u64,
         sink: &mut S,
-    ) -> Result<usize, Refusal>
+    ) -> Taken
         requires some { 0 < length run.now }
         ensures takes { FeedsPart (gives_item S.gives S.gives_token) self.old names.old at run.now names.new sink.old result sink.new self.new }
         ensures few { IfOk result (λ count. (0 < count) × IsCut count run.now) }
@@ -277,7 +259,7 @@ impl<'t> Tokenizer<'t> {
         run: &str,
         at: u64,
         sink: &mut S,
-    ) -> Result<usize, Refusal>
+    ) -> Taken
         requires comment { self.old.state ≡ State.Comment }
         requires some { 0 < length run.now }
         requires within { at + length run.now ≤ MAX_INPUT }
@@ -302,7 +284,7 @@ impl<'t> Tokenizer<'t> {
         run: &str,
         at: u64,
         sink: &mut S,
-    ) -> Result<usize, Refusal>
+    ) -> Taken
         requires doctype { self.old.state ≡ State.Doctype }
         requires some { 0 < length run.now }
         requires within { at + length run.now ≤ MAX_INPUT }

@@ -1,8 +1,8 @@
 //! The level of script data (HTML Standard, `#script-data-less-than-sign-state` to `#script-data-double-escape-end-state`).
 
-ghost use Rattle.std.specs.Prelude.{◌≡◌, [], ◌∷◌, ◌==◌, ◌&&◌, ℕ, List, nat_lt, IsTrue};
+ghost use Rattle.std.specs.Prelude.{◌≡◌, [], ◌∷◌, ◌==◌, ◌&&◌, ℕ, List, nat_lt, bit_and};
 ghost use Rattle.std.specs.Str.{chars};
-ghost use Rattle.htoken.specs.Vocabulary.{Character, ends_name, FollowsAll, HasFront, idle, is_dashes, mark_is_less_bang_dash, is_read, level_after, level_number, mark_after, placed, word_after};
+ghost use Rattle.htoken.specs.Vocabulary.{byte_of, Character, ends_name, FollowsAll, HasFront, level_after, level_number, next_level, placed};
 ghost use Rattle.std.specs.Char.{to_ascii_lowercase};
 
 use names::Placed;
@@ -18,44 +18,38 @@ pub(crate) enum Level {
     DoubleEscaped,
 }
 
-/// The beginning of `<!--` or `-->` that ends the text: the script data escape start states, and those after a dash in escaped and
-/// double escaped script data (`#script-data-escape-start-state`, `#script-data-escape-start-dash-state`,
-/// `#script-data-escaped-dash-state`, `#script-data-escaped-dash-dash-state`, `#script-data-double-escaped-dash-state`,
-/// `#script-data-double-escaped-dash-dash-state`).
-#[derive(Clone, Copy)]
-pub(crate) enum Mark {
-    /// Nothing.
-    Nothing,
-    /// `<`
-    Less,
-    /// `<!`
-    LessBang,
-    /// `<!-`
-    LessBangDash,
-    /// `-`
-    Dash,
-    /// `--`, or `<!--`
-    Dashes,
-}
-
-/// The beginning of a tag of a given name that ends the text: the script data double escape start and double escape end states
-/// (`#script-data-double-escape-start-state`, `#script-data-double-escaped-less-than-sign-state`,
+/// Follows script data, a character at a time. What the last characters are says when a mark or a tag ends: the script data escape start
+/// states, those after a dash in escaped and double escaped script data (`#script-data-escape-start-state`,
+/// `#script-data-escape-start-dash-state`, `#script-data-escaped-dash-state`, `#script-data-escaped-dash-dash-state`,
+/// `#script-data-double-escaped-dash-state`, `#script-data-double-escaped-dash-dash-state`), and the script data double escape start and
+/// double escape end states (`#script-data-double-escape-start-state`, `#script-data-double-escaped-less-than-sign-state`,
 /// `#script-data-double-escape-end-state`).
-#[derive(Clone, Copy)]
-pub(crate) enum Word {
-    /// Nothing.
-    Nothing,
-    /// `<` and this many characters of the name.
-    Read(usize),
-}
-
-/// Follows script data, a character at a time.
 #[derive(Clone, Copy)]
 pub(crate) struct Script {
     pub level: Level,
-    pub mark: Mark,
-    pub opening: Word,
-    pub closing: Word,
+    /// The last eight characters, the last one lowest, each as a byte: in lower case, or 0 where it is not ASCII.
+    pub last: u64,
+}
+
+/// `--`, `<!-`, `<script` and `</script`, as `Script` has its last characters.
+const DASHES: u64 = 0x2D2D;
+
+const LESS_BANG_DASH: u64 = 0x3C_212D;
+
+const LESS_SCRIPT: u64 = 0x3C_7363_7269_7074;
+
+const LESS_SOLIDUS_SCRIPT: u64 = 0x3C2F_7363_7269_7074;
+
+/// A character as a byte: in lower case, or 0 where it is not ASCII.
+#[inline(always)]
+fn byte_of(ch: char) -> u64
+    ensures { result ≡ byte_of ch }
+{
+    if ch.is_ascii() {
+        ch.to_ascii_lowercase() as u64
+    } else {
+        0
+    }
 }
 
 /// Whether a character is this byte of a name, in any case.
@@ -87,67 +81,13 @@ impl Level {
     }
 }
 
-impl Mark {
-    fn after(self, ch: char) -> Mark
-        ensures { result ≡ mark_after self ch }
-    {
-        match ch {
-            '-' => match self {
-                Mark::Nothing | Mark::Less => Mark::Dash,
-                Mark::LessBang => Mark::LessBangDash,
-                Mark::LessBangDash | Mark::Dash | Mark::Dashes => Mark::Dashes,
-            },
-            '!' if matches!(self, Mark::Less) => Mark::LessBang,
-            '<' => Mark::Less,
-            _ => Mark::Nothing,
-        }
-    }
-
-    /// Whether a character ends `-->`.
-    fn ends(self, ch: char) -> bool
-        ensures { result ≡ (ch == 62 && is_dashes self) }
-    {
-        ch == '>' && matches!(self, Mark::Dashes)
-    }
-
-    /// Whether a character ends `<!--`.
-    fn begins(self, ch: char) -> bool
-        ensures { result ≡ (ch == 45 && mark_is_less_bang_dash self) }
-    {
-        ch == '-' && matches!(self, Mark::LessBangDash)
-    }
-}
-
-impl Word {
-    fn after(self, name: &[u8], ch: char) -> Word
-        ensures { result ≡ word_after name.now self ch }
-    {
-        if ch == '<' {
-            return Word::Read(0);
-        }
-        match self {
-            Word::Read(n) if n < name.len() && agrees(ch, name[n]) => Word::Read(n + 1),
-            _ => Word::Nothing,
-        }
-    }
-
-    /// Whether a character ends `<` and the name, which is this long.
-    fn ends(self, count: usize, ch: char) -> bool
-        ensures { result ≡ (ends_name ch && is_read count self) }
-    {
-        ends_name(ch) && matches!(self, Word::Read(n) if n == count)
-    }
-}
-
 impl Script {
     pub fn new() -> Script
         ensures { HasFront result [] }
     {
         Script {
             level: Level::Plain,
-            mark: Mark::Nothing,
-            opening: Word::Nothing,
-            closing: Word::Nothing,
+            last: 0,
         }
     }
 
@@ -177,63 +117,49 @@ impl Script {
     pub fn may_end(self) -> bool
         ensures { result ≡ nat_lt (level_number self.level) 2 }
     {
-        match self.level {
-            Level::Plain | Level::Escaped => true,
-            Level::DoubleEscaped => false,
-        }
+        !matches!(self.level, Level::DoubleEscaped)
     }
 
     /// Whether it is in comment-like text.
     pub fn is_inside(self) -> bool
         ensures { result ≡ nat_lt 0 (level_number self.level) }
     {
-        match self.level {
-            Level::Plain => false,
-            Level::Escaped | Level::DoubleEscaped => true,
-        }
+        !matches!(self.level, Level::Plain)
     }
 
-    /// Whether the text ends in no beginning of a mark or of a tag, outside comment-like text.
-    #[inline(always)]
-    fn is_idle(self) -> bool
-        ensures { IsTrue result → self ≡ idle }
-    {
-        matches!(
-            self,
-            Script {
-                level: Level::Plain,
-                mark: Mark::Nothing,
-                opening: Word::Nothing,
-                closing: Word::Nothing,
-            }
-        )
-    }
-
-    /// The script after one more character. Most of a script begins nothing.
+    /// The script after one more character. Most of a script is outside comment-like text, and begins none.
     #[inline(always)]
     pub fn after(self, ch: char) -> Script
         ensures { (at : ℕ) (front : List Character) → HasFront self front → HasFront result (record { ch = ch; at = at } ∷ front) }
     {
-        if self.is_idle() && ch != '!' && ch != '-' && ch != '<' {
-            return self;
+        let last = self.last % 0x100_0000_0000_0000 * 256 + byte_of(ch);
+        match self.level {
+            Level::Plain if ch != '-' => Script { last, ..self },
+            _ => Script {
+                level: self.level_after(ch),
+                last,
+            },
         }
-        self.after_any(ch)
     }
 
-    /// The same, whatever was begun.
-    fn after_any(self, ch: char) -> Script
-        ensures { (at : ℕ) (front : List Character) → HasFront self front → HasFront result (record { ch = ch; at = at } ∷ front) }
+    /// The level after one more character.
+    #[inline(never)]
+    fn level_after(self, ch: char) -> Level
+        ensures { result ≡ next_level self ch }
     {
-        Script {
-            level: self.level.after(
-                self.mark.ends(ch),
-                self.mark.begins(ch),
-                self.opening.ends(6, ch),
-                self.closing.ends(7, ch),
-            ),
-            mark: self.mark.after(ch),
-            opening: self.opening.after(b"script", ch),
-            closing: self.closing.after(b"/script", ch),
-        }
+        self.level.after(
+            self.is_marked(ch == '>', 0xFFFF, DASHES),
+            self.is_marked(ch == '-', 0xFF_FFFF, LESS_BANG_DASH),
+            self.is_marked(ends_name(ch), 0xFF_FFFF_FFFF_FFFF, LESS_SCRIPT),
+            self.is_marked(ends_name(ch), u64::MAX, LESS_SOLIDUS_SCRIPT),
+        )
+    }
+
+    /// Whether a character that may end a mark, or a tag's name, comes after it: the last characters are these.
+    #[inline(always)]
+    fn is_marked(self, may: bool, mask: u64, mark: u64) -> bool
+        ensures { result ≡ (may && bit_and self.last mask == mark) }
+    {
+        may && self.last & mask == mark
     }
 }

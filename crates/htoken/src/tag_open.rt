@@ -4,22 +4,16 @@ ghost use Rattle.std.specs.Prelude.{◌≡◌, ◌∷◌, ℕ, [], true};
 ghost use Rattle.htoken.specs.Vocabulary.{gives_item, is_no_markup, TakesNext};
 
 use crate::hand::give_faulty;
-use crate::markup_declaration_open::Opened;
 use crate::sink::TokenSink;
 use crate::state::State;
-use crate::tokenizer::Tokenizer;
+use crate::tokenizer::{Answer, Tokenizer};
 use htag::TagKind;
-use names::{ErrorCode, ParseError, Refusal};
+use names::{ErrorCode, ParseError};
 
 impl<'t> Tokenizer<'t> {
     /// The tag open state (`#tag-open-state`), after `<`.
     #[inline(always)]
-    pub(crate) fn tag_open<S: TokenSink>(
-        &mut self,
-        ch: char,
-        at: u64,
-        sink: &mut S,
-    ) -> Result<(), Refusal>
+    pub(crate) fn tag_open<S: TokenSink>(&mut self, ch: char, at: u64, sink: &mut S) -> Answer
         requires { self.old.state ≡ State.TagOpen }
         ensures { TakesNext (gives_item S.gives S.gives_token) self.old (record { ch = ch; at = at }) sink.old result sink.new self.new }
     {
@@ -29,7 +23,7 @@ impl<'t> Tokenizer<'t> {
                 Ok(())
             }
             '!' => {
-                self.state = State::MarkupDeclarationOpen(at, Opened::Nothing);
+                self.state = State::MarkupDeclarationOpen(at);
                 self.held.clear();
                 Ok(())
             }
@@ -43,7 +37,7 @@ impl<'t> Tokenizer<'t> {
     }
 
     /// A `<` before a character with which it begins no markup is text.
-    fn less_is_text<S: TokenSink>(&mut self, ch: char, at: u64, sink: &mut S) -> Result<(), Refusal>
+    fn less_is_text<S: TokenSink>(&mut self, ch: char, at: u64, sink: &mut S) -> Answer
         requires state { self.old.state ≡ State.TagOpen }
         requires other { is_no_markup (record { ch = ch; at = at } ∷ []) ≡ true }
         ensures { TakesNext (gives_item S.gives S.gives_token) self.old (record { ch = ch; at = at }) sink.old result sink.new self.new }
@@ -61,12 +55,7 @@ impl<'t> Tokenizer<'t> {
 
     /// The end tag open state (`#end-tag-open-state`), after `</`.
     #[inline(always)]
-    pub(crate) fn end_tag_open<S: TokenSink>(
-        &mut self,
-        ch: char,
-        at: u64,
-        sink: &mut S,
-    ) -> Result<(), Refusal>
+    pub(crate) fn end_tag_open<S: TokenSink>(&mut self, ch: char, at: u64, sink: &mut S) -> Answer
         requires { (solidus : ℕ) × (self.old.state ≡ State.EndTagOpen solidus) }
         ensures { TakesNext (gives_item S.gives S.gives_token) self.old (record { ch = ch; at = at }) sink.old result sink.new self.new }
     {

@@ -7,7 +7,7 @@ use crate::script::Script;
 use crate::sink::TokenSink;
 use crate::state::State;
 use crate::token::Token;
-use crate::tokenizer::Tokenizer;
+use crate::tokenizer::{Answer, Tokenizer};
 use htag::TagKind;
 use names::{ErrorCode, NameId, Names, ParseError, RawKind, Refusal};
 use std::alloc::AllocError;
@@ -30,7 +30,7 @@ impl<'t> Tokenizer<'t> {
         ch: char,
         at: u64,
         sink: &mut S,
-    ) -> Result<(), Refusal>
+    ) -> Answer
         requires { self.old.state ≡ State.Tag }
         ensures takes { (table : Entities) (start : Kind) (before : Texts) (text : List Character) (taken : List Event) → Grows before names.old
             → Reads table start self.old before text (record { ch = ch; at = at } ∷ []) taken
@@ -49,11 +49,7 @@ impl<'t> Tokenizer<'t> {
 
     /// Hands over the tag that has ended.
     #[inline(always)]
-    pub(crate) fn end_tag<S: TokenSink>(
-        &mut self,
-        names: &mut Names,
-        sink: &mut S,
-    ) -> Result<(), Refusal>
+    pub(crate) fn end_tag<S: TokenSink>(&mut self, names: &mut Names, sink: &mut S) -> Answer
         ensures tag { EndsTag (gives_item S.gives S.gives_token) self.old names.new sink.old result self.new sink.new }
         ensures grows { Grows names.old names.new }
     {
@@ -95,12 +91,7 @@ impl<'t> Tokenizer<'t> {
 
     /// Hands over a start tag of this name, unless it is left out of the profile.
     #[inline(always)]
-    fn end_start_tag<S: TokenSink>(
-        &mut self,
-        name: NameId,
-        names: &Names,
-        sink: &mut S,
-    ) -> Result<(), Refusal>
+    fn end_start_tag<S: TokenSink>(&mut self, name: NameId, names: &Names, sink: &mut S) -> Answer
         ensures { (text : List ℕ) (attrs : List (List ℕ × List ℕ))
             → EndsStartTag (gives_item S.gives S.gives_token) self.old names.now name text attrs sink.old result self.new sink.new }
     {

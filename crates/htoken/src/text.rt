@@ -7,8 +7,8 @@ ghost use Rattle.htoken.specs.Vocabulary.{Char, ends_by, Gives, gives_item, Hand
 use crate::hand::{give, give_faulty};
 use crate::sink::TokenSink;
 use crate::state::State;
-use crate::tokenizer::Tokenizer;
-use names::{ErrorCode, RawKind, Refusal};
+use crate::tokenizer::{Answer, Tokenizer};
+use names::{ErrorCode, RawKind};
 
 /// Whether references may be in text of this kind.
 pub(crate) fn allows_references(kind: RawKind) -> bool
@@ -20,12 +20,7 @@ pub(crate) fn allows_references(kind: RawKind) -> bool
 impl<'t> Tokenizer<'t> {
     /// Takes a character where nothing is held.
     #[inline(always)]
-    pub(crate) fn in_text<S: TokenSink>(
-        &mut self,
-        ch: char,
-        at: u64,
-        sink: &mut S,
-    ) -> Result<(), Refusal>
+    pub(crate) fn in_text<S: TokenSink>(&mut self, ch: char, at: u64, sink: &mut S) -> Answer
         requires { self.old.state ≡ State.Text }
         ensures { TakesNext (gives_item S.gives S.gives_token) self.old (record { ch = ch; at = at }) sink.old result sink.new self.new }
     {
@@ -39,12 +34,7 @@ impl<'t> Tokenizer<'t> {
 
     /// Takes a character in the data state (`#data-state`).
     #[inline(always)]
-    pub(crate) fn in_data<S: TokenSink>(
-        &mut self,
-        ch: char,
-        at: u64,
-        sink: &mut S,
-    ) -> Result<(), Refusal>
+    pub(crate) fn in_data<S: TokenSink>(&mut self, ch: char, at: u64, sink: &mut S) -> Answer
         requires text { self.old.state ≡ State.Text }
         requires is_data { self.old.kind ≡ RawKind.None }
         ensures { TakesNext (gives_item S.gives S.gives_token) self.old (record { ch = ch; at = at }) sink.old result sink.new self.new }
@@ -64,7 +54,7 @@ impl<'t> Tokenizer<'t> {
     /// Takes a character in the RCDATA, RAWTEXT, script data or PLAINTEXT state (`#rcdata-state`, `#rawtext-state`, `#script-data-state`,
     /// `#plaintext-state`).
     #[inline(never)]
-    fn in_raw<S: TokenSink>(&mut self, ch: char, at: u64, sink: &mut S) -> Result<(), Refusal>
+    fn in_raw<S: TokenSink>(&mut self, ch: char, at: u64, sink: &mut S) -> Answer
         requires text { self.old.state ≡ State.Text }
         requires raw { is_raw self.old.kind ≡ true }
         ensures { TakesNext (gives_item S.gives S.gives_token) self.old (record { ch = ch; at = at }) sink.old result sink.new self.new }
@@ -94,12 +84,7 @@ impl<'t> Tokenizer<'t> {
     }
 
     /// Hands over a character of raw text, and follows the level of script data.
-    pub(crate) fn give_raw<S: TokenSink>(
-        &mut self,
-        ch: char,
-        at: u64,
-        sink: &mut S,
-    ) -> Result<(), Refusal>
+    pub(crate) fn give_raw<S: TokenSink>(&mut self, ch: char, at: u64, sink: &mut S) -> Answer
         ensures follows { IsFollowed self.old ch self.new }
         ensures handed { (names : Texts) → HandsEvents (gives_item S.gives S.gives_token) names sink.old (Gives (Char ch at) ∷ []) result sink.new }
     {

@@ -15,6 +15,12 @@ use htag::TagWalk;
 use names::{NameId, Names, Placed, RawKind, Refusal};
 use std::alloc::Global;
 
+/// What a step answers: that it is done, or a refusal.
+pub(crate) type Answer = Result<(), Refusal>;
+
+/// How many bytes of a run were taken, or a refusal.
+pub(crate) type Taken = Result<usize, Refusal>;
+
 /// Cuts a text that comes character by character into tokens (HTML Standard, `#tokenization`). It keeps the unfinished span alone.
 pub struct Tokenizer<'t> {
     pub(crate) alloc: Global,
@@ -123,15 +129,11 @@ impl<'t> Tokenizer<'t> {
         if let Some(refusal) = self.refused {
             return Err(refusal);
         }
-        if self.is_in_data() {
-            self.next = after(at);
-            match self.in_data(ch, at, sink) {
-                Ok(()) => Ok(()),
-                Err(refusal) => self.refuse(refusal),
-            }
-        } else {
-            self.feed_other(names, ch, at, sink)
+        let answer = self.take(names, ch, at, sink);
+        if let Err(refusal) = answer {
+            self.refused = Some(refusal);
         }
+        answer
     }
 
     /// The place of the first character that is held back, or, where none is, one more than the last place fed. Whatever comes
@@ -174,43 +176,6 @@ impl<'t> Tokenizer<'t> {
         answer
     }
 
-    /// Whether nothing is held, and data is here.
-    fn is_in_data(&self) -> bool
-        ensures { MatchBool result ((self.now.state ≡ State.Text) × (self.now.kind ≡ RawKind.None)) (Unit {0}) }
-    {
-        matches!(self.state, State::Text) && matches!(self.kind, RawKind::None)
-    }
-
-    /// Refuses every later call.
-    pub(crate) fn refuse(&mut self, refusal: Refusal) -> Result<(), Refusal>
-        ensures answer { result ≡ Err refusal }
-        ensures refused { self.new.refused ≡ Some refusal }
-    {
-        self.refused = Some(refusal);
-        Err(refusal)
-    }
-
-    /// Takes a character in raw text, or where something is held.
-    #[inline(never)]
-    fn feed_other<S: TokenSink>(
-        &mut self,
-        names: &mut Names,
-        ch: char,
-        at: u64,
-        sink: &mut S,
-    ) -> Result<(), Refusal>
-        ensures takes { FeedsText (gives_item S.gives S.gives_token) self.old names.old (record { ch = ch; at = at } ∷ [])
-            names.new sink.old result sink.new self.new }
-        ensures grows { Grows names.old names.new }
-        ensures refused { IfErr result (λ refusal. self.new.refused ≡ Some refusal) }
-    {
-        let answer = self.take(names, ch, at, sink);
-        if let Err(refusal) = answer {
-            self.refused = Some(refusal);
-        }
-        answer
-    }
-
     /// Takes a character, by what is held.
     #[inline(always)]
     pub(crate) fn take<S: TokenSink>(
@@ -219,7 +184,7 @@ impl<'t> Tokenizer<'t> {
         ch: char,
         at: u64,
         sink: &mut S,
-    ) -> Result<(), Refusal>
+    ) -> Answer
         ensures takes { FeedsText (gives_item S.gives S.gives_token) self.old names.old (record { ch = ch; at = at } ∷ [])
             names.new sink.old result sink.new self.new }
         ensures grows { Grows names.old names.new }
@@ -229,9 +194,7 @@ impl<'t> Tokenizer<'t> {
             State::Text => self.in_text(ch, at, sink),
             State::TagOpen => self.tag_open(ch, at, sink),
             State::EndTagOpen(_) => self.end_tag_open(ch, at, sink),
-            State::MarkupDeclarationOpen(bang, so) => self.markup_declaration_open(
-                bang, so, ch, at, sink,
-            ),
+            State::MarkupDeclarationOpen(_) => self.markup_declaration_open(ch, at, sink),
             State::Comment => self.in_comment(ch, at, sink),
             State::Doctype => self.in_doctype(ch, at, sink),
             State::Reference => self.in_reference(ch, at, sink),
@@ -246,11 +209,7 @@ impl<'t> Tokenizer<'t> {
 
     /// Hands over the span that has ended: its errors, and then its token.
     #[inline(always)]
-    pub(crate) fn end_span<S: TokenSink>(
-        &mut self,
-        token: Token,
-        sink: &mut S,
-    ) -> Result<(), Refusal>
+    pub(crate) fn end_span<S: TokenSink>(&mut self, token: Token, sink: &mut S) -> Answer
         ensures handed { Hands (gives_item S.gives S.gives_token) sink.old (items_of self.old.raised.errors.items (Some (Alone token))) result sink.new }
         ensures then { EndsSpan self.old self.new }
     {
@@ -265,7 +224,7 @@ impl<'t> Tokenizer<'t> {
         token: Token,
         names: &Names,
         sink: &mut S,
-    ) -> Result<(), Refusal>
+    ) -> Answer
         ensures handed { Hands (gives_item S.gives S.gives_token) sink.old (items_of self.old.raised.errors.items (Some (WithNames names.now token)))
             result sink.new }
         ensures then { EndsSpan self.old self.new }
@@ -276,7 +235,7 @@ impl<'t> Tokenizer<'t> {
 
     /// Hands over the errors of the span that has ended.
     #[inline(always)]
-    pub(crate) fn end_errors<S: TokenSink>(&mut self, sink: &mut S) -> Result<(), Refusal>
+    pub(crate) fn end_errors<S: TokenSink>(&mut self, sink: &mut S) -> Answer
         ensures handed { Hands S.gives sink.old self.old.raised.errors.items result sink.new }
         ensures then { EndsSpan self.old self.new }
     {

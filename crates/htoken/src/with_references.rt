@@ -11,6 +11,7 @@ use crate::gathered_text::GatheredText;
 use crate::hand::{hand_errors, tell_known};
 use crate::sink::TokenSink;
 use crate::state::Raised;
+use crate::tokenizer::{Answer, Taken};
 use charref::{Characters, Reference, Table};
 use htext::text_run;
 use names::{RawKind, Refusal};
@@ -117,7 +118,7 @@ impl TextWithReferences {
 
     /// Adds a whole reference. Returns its length.
     #[inline(always)]
-    fn add_reference(&mut self, found: &Reference, size: usize, at: u64) -> Result<usize, Refusal>
+    fn add_reference(&mut self, found: &Reference, size: usize, at: u64) -> Taken
         requires some { list_all is_not_null (characters_of found.now.characters) ≡ true }
         requires left { found.now.left ≤ size }
         requires within { size < MAX_INPUT }
@@ -144,7 +145,7 @@ impl TextWithReferences {
 
     /// Adds the `&` at the front of a run that is text, of this length with the letters and digits after it.
     #[inline(always)]
-    fn add_bare(&mut self, run: &str, size: usize, at: u64) -> Result<(), Refusal>
+    fn add_bare(&mut self, run: &str, size: usize, at: u64) -> Answer
         requires clean { list_all is_clean (chars run.now) ≡ true }
         requires some { 0 < size }
         requires within { size < length run.now }
