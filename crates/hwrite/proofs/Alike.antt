@@ -2,7 +2,7 @@
 use Rattle.hwrite.proofs.Vocabulary.{◌≡◌, ℕ, List, [], ◌∷◌, length, ap₂, refl, true, arith, nat_lt, Texts, spelling, Forest, mapped}
 use Rattle.std.proofs.Common.{map}
 use Rattle.names.specs.Names.{IsOf, text_of}
-use Rattle.hnodes.specs.Forest.{Attribute, What, document, doctype, element, comment, text, none, tree}
+use Rattle.hnodes.specs.Forest.{Attribute, What, element, none, tree}
 use Rattle.hnodes.specs.Named.{AttributesAreOf, NodeIsOf, AreOf}
 use Rattle.hnodes.specs.Mapped.{mapped_attribute, mapped_what}
 
@@ -16,11 +16,8 @@ attributes-alike names [] are = refl
 attributes-alike names (a ∷ others) (is, are) = ap₂ (λ (t : List ℕ) (rest : List (Attribute (List ℕ))). (t, a.1) ∷ rest) (name-alike names a.0 is) (attributes-alike names others are)
 
 what-alike : (names : Texts) (w : What ℕ) → NodeIsOf names w → mapped_what (text_of names) w ≡ mapped_what (spelling names) w
-what-alike names document is = refl
-what-alike names (doctype n p s) is = refl
 what-alike names (element name attrs) (is, are) = ap₂ (λ (t : List ℕ) (rest : List (Attribute (List ℕ))). element t rest) (name-alike names name is) (attributes-alike names attrs are)
-what-alike names (comment t) is = refl
-what-alike names (text t) is = refl
+what-alike names other is = refl
 
 pub mapped-alike : (names : Texts) (f : Forest ℕ) → AreOf names f → mapped (text_of names) f ≡ mapped (spelling names) f
 mapped-alike names none are = refl

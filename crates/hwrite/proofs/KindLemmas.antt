@@ -18,17 +18,13 @@ written_here cell kind i inside few =
     rw (written_is cell kind i inside few, shr_high kind (i * 2) (cell % 2 ^ (i * 2)) below) (omega arith)
 
 kept : (cell kind i j : ℕ) → i < 4 → j < i → (kind * 2 ^ (i * 2) + cell % 2 ^ (i * 2)) / 2 ^ (j * 2) % 4 ≡ cell / 2 ^ (j * 2) % 4
-kept cell kind zero j inside before = absurd (omega arith)
 kept cell kind (suc zero) zero inside before = omega arith
-kept cell kind (suc zero) (suc j) inside before = absurd (omega arith)
 kept cell kind (suc (suc zero)) zero inside before = omega arith
 kept cell kind (suc (suc zero)) (suc zero) inside before = omega arith
-kept cell kind (suc (suc zero)) (suc (suc j)) inside before = absurd (omega arith)
 kept cell kind (suc (suc (suc zero))) zero inside before = omega arith
 kept cell kind (suc (suc (suc zero))) (suc zero) inside before = omega arith
 kept cell kind (suc (suc (suc zero))) (suc (suc zero)) inside before = omega arith
-kept cell kind (suc (suc (suc zero))) (suc (suc (suc j))) inside before = absurd (omega arith)
-kept cell kind (suc (suc (suc (suc i)))) j inside before = absurd (omega arith)
+kept cell kind i j inside before = absurd (omega arith)
 
 pub written_before : (cell kind i j : ℕ) → i < 4 → j < i → kind < 4 → written cell kind i / 2 ^ (j * 2) % 4 ≡ cell / 2 ^ (j * 2) % 4
 written_before cell kind i j inside before few = rw (written_is cell kind i inside few) (kept cell kind i j inside before)

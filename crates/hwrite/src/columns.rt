@@ -15,14 +15,8 @@ pub fn line_column(text: &[u8], at: u64) -> (usize, usize)
     ensures line { result.0 ≡ line_at text.now (min at (length text.now)) }
     ensures column { result.1 ≡ column_at text.now (min at (length text.now)) }
 {
-    place_after(text, 0, end_of(text.len(), at), (1, 1))
-}
-
-/// The offset, or the text's length where it is past the end.
-pub(crate) fn end_of(length: usize, at: u64) -> usize
-    ensures { result ≡ min at length }
-{
-    at.min(length as u64) as usize
+    let end = at.min(text.len() as u64) as usize;
+    place_after(text, 0, end, (1, 1))
 }
 
 /// The line and the column of a byte, from those of one before it.
@@ -87,7 +81,7 @@ impl<'t> Lines<'t> {
         ensures line { result.0 ≡ line_at self.now.text.now (min at (length self.now.text.now)) }
         ensures column { result.1 ≡ column_at self.now.text.now (min at (length self.now.text.now)) }
     {
-        let end = end_of(self.text.len(), at);
+        let end = at.min(self.text.len() as u64) as usize;
         let mark = end / STEP;
         place_after(self.text, mark * STEP, end, self.marks[mark])
     }

@@ -5,7 +5,6 @@
 //! no more, the reading ends, and `read_into` answers that refusal; `Refusal::Write` is one that no input brings.
 #![tactic(auto)]
 
-mod byte_kinds;
 mod columns;
 pub mod command;
 pub mod counted;
@@ -13,7 +12,6 @@ pub mod devices;
 pub mod engine;
 mod line_index;
 pub mod lines;
-mod quoted;
 mod words;
 
 pub use columns::{Lines, line_column};

@@ -1,12 +1,15 @@
 //! The lines and the columns of bytes that come in pieces and are not kept.
 
-ghost use Rattle.std.specs.Prelude.{◌≡◌, ◌≢◌, ◌==◌, ◌<◌, ◌≤◌, ◌^◌, ◌-◌, ◌*◌, ◌+◌, ◌∷◌, ◌++◌, [], List, OnOk, OnErr, length, min, slice_index_or, vec_len, ℕ};
+ghost use Rattle.std.specs.Prelude.{◌≡◌, ◌≢◌, ◌==◌, ◌<◌, ◌≤◌, ◌^◌, ◌-◌, ◌*◌, ◌/◌, ◌+◌, ◌∷◌, ◌++◌, [], List, OnOk, OnErr, length, min, slice_index_or, vec_len, ℕ};
+ghost use Rattle.hwrite.specs.ByteKinds.{AreAlikeBytes, kind_at, kind_of};
 ghost use Rattle.hwrite.specs.Columns.{column_at, line_at};
 ghost use Rattle.hwrite.specs.Indexed.{IndexHasRead};
 
-use crate::byte_kinds::{byte_at, kind_of, set_kind};
-use crate::columns::{STEP, end_of, next_place};
+use crate::columns::{STEP, next_place};
 use std::alloc::{AllocError, Global};
+
+/// A byte of each kind: one that continues a character, one that begins a character, LF and CR.
+const KINDS: [u8; 4] = [0x80, b'a', b'\n', b'\r'];
 
 /// The lines of a text that comes in pieces and is not kept: an index, of which each question takes at most 256 steps. It has 80 bytes
 /// for 256 of the text: two bits for each, and 16 bytes for the line and the column of the first. Since it grows as a `Vec` does, it
@@ -87,7 +90,7 @@ impl LineIndex {
         ensures line { (bytes : List ℕ) → IndexHasRead self.now bytes → result.0 ≡ line_at bytes (min at (length bytes)) }
         ensures column { (bytes : List ℕ) → IndexHasRead self.now bytes → result.1 ≡ column_at bytes (min at (length bytes)) }
     {
-        let end = end_of(self.length, at);
+        let end = at.min(self.length as u64) as usize;
         let mark = end.saturating_sub(1) / STEP;
         let place = self.marks.get(mark).copied().unwrap_or((1, 1));
         self.place_after(mark * STEP, end, place)
@@ -136,4 +139,35 @@ fn grow<T: Copy>(items: &mut Vec<T>, length: usize, value: T) -> Result<(), Allo
         return Ok(());
     }
     items.resize(length, value)
+}
+
+/// The kind of a byte.
+fn kind_of(byte: u8) -> u8
+    ensures { result ≡ kind_of byte }
+{
+    match byte {
+        b'\n' => 2,
+        b'\r' => 3,
+        0x80..=0xBF => 0,
+        _ => 1,
+    }
+}
+
+/// A byte of the kind at a place.
+fn byte_at(kinds: &[u8], at: usize) -> u8
+    ensures { (byte : ℕ) → kind_at kinds.now at ≡ kind_of byte → AreAlikeBytes result byte }
+{
+    let four = kinds.get(at / 4).copied().unwrap_or(0);
+    KINDS[(four >> (at % 4 * 2) & 3) as usize]
+}
+
+/// Writes the kind at a place. Kinds at later places are lost.
+fn set_kind(kinds: &mut [u8], at: usize, kind: u8)
+    requires { (at / 4 < length kinds.old) × (kind < 4) }
+    ensures here { kind_at kinds.new at ≡ kind }
+    ensures before { (k : ℕ) → k < at → kind_at kinds.new k ≡ kind_at kinds.old k }
+{
+    let shift = at % 4 * 2;
+    let before = kinds[at / 4] & ((1 << shift) - 1);
+    kinds[at / 4] = before | kind << shift;
 }

@@ -6,8 +6,7 @@ ghost use Rattle.std.specs.String.{string_bytes};
 ghost use Rattle.names.specs.declared.refusal.Refusal.TheVariants.{Memory};
 ghost use Rattle.hwrite.specs.Vocabulary.{AddsText, beginning_of_characters, Char, drafted, Drafts, end_of_characters, Line, line_text, draft_table, tok_of, Tok, TokensMean, token_lines};
 
-use crate::quoted::push_escaped;
-use crate::words::{begin_line, push_line};
+use crate::words::{begin_line, push_escaped, push_line};
 use hmarkup::ErrorSink;
 use hparse::TokenRun;
 use htoken::{Token, TokenSink};

@@ -1,12 +1,12 @@
-//! Lines of tokens, and parts of them.
+//! Lines of tokens, and parts of them: words, and texts between quotes.
 
-ghost use Rattle.std.specs.Prelude.{◌≡◌, ◌++◌, ℕ, [], codes, decimal, if◌then◌else◌, map, OnOk};
-ghost use Rattle.std.specs.List.{flat_map};
+ghost use Rattle.std.specs.Prelude.{◌≡◌, ◌⊎◌, ◌++◌, ◌<◌, ℕ, [], codes, decimal, encode_utf8, if◌then◌else◌, map, OnOk};
+ghost use Rattle.std.specs.List.{flat_map, list_all};
 ghost use Rattle.std.specs.String.{string_bytes};
 ghost use Rattle.hmarkup.specs.DoctypeWalk.{optional_text as text_if_any};
-ghost use Rattle.hwrite.specs.Vocabulary.{doctype_token, Start, draft_attribute, attribute_words, quoted, quoted_or_none, line_of, line_text, draft_table, text_of, tok_of};
+ghost use Rattle.hwrite.specs.Quoted.{is_unescaped};
+ghost use Rattle.hwrite.specs.Vocabulary.{doctype_token, Start, draft_attribute, attribute_words, escaped_byte, quote_escaped, quoted, quoted_or_none, line_of, line_text, draft_table, text_of, tok_of};
 
-use crate::quoted::push_quoted;
 use hmarkup::Doctype;
 use htoken::Token;
 use itoa::Buffer;
@@ -69,17 +69,6 @@ fn name_text<'n>(names: Option<&'n Names>, name: NameId) -> &'n str
     }
 }
 
-/// Writes an attribute of a start tag.
-fn push_attribute(text: &mut String, attr: &Attr, names: Option<&Names>) -> Result<(), AllocError>
-    ensures { OnOk result (string_bytes text.new
-        ≡ string_bytes text.old ++ attribute_words (draft_attribute (draft_table names.entry) attr.now)) }
-{
-    text.push(' ')?;
-    push_quoted(text, name_text(names, attr.name()))?;
-    text.push('=')?;
-    push_quoted(text, attr.value())
-}
-
 /// Writes the attributes of a start tag.
 fn push_attributes(
     text: &mut String,
@@ -90,7 +79,10 @@ fn push_attributes(
         ≡ string_bytes text.old ++ flat_map attribute_words (map (draft_attribute (draft_table names.entry)) attrs.now)) }
 {
     for attr in attrs {
-        push_attribute(text, attr, names)?;
+        text.push(' ')?;
+        push_quoted(text, name_text(names, attr.name()))?;
+        text.push('=')?;
+        push_quoted(text, attr.value())?;
     }
     Ok(())
 }
@@ -143,4 +135,79 @@ pub fn push_line(text: &mut String, token: &Token, names: Option<&Names>) -> Res
         // There is none.
         Token::Char { .. } => Ok(()),
     }
+}
+
+/// Writes a character that is escaped between quotes.
+#[inline(never)]
+fn push_escape(text: &mut String, ch: char) -> Result<(), AllocError>
+    requires { (ch < 32) ⊎ (ch ≡ 34) ⊎ (ch ≡ 92) }
+    ensures { OnOk result (string_bytes text.new ≡ string_bytes text.old ++ escaped_byte ch) }
+{
+    if ch == '"' {
+        text.push_str("\\\"")
+    } else if ch == '\\' {
+        text.push_str("\\\\")
+    } else if ch == '\n' {
+        text.push_str("\\n")
+    } else {
+        write!(text, "\\x{:02x}", ch as u32)
+    }
+}
+
+/// Writes a character as it is between quotes.
+#[inline]
+pub fn push_escaped(text: &mut String, ch: char) -> Result<(), AllocError>
+    ensures { OnOk result
+        (string_bytes text.new ≡ string_bytes text.old ++ quote_escaped (encode_utf8 ch)) }
+{
+    if ch >= ' ' && ch != '"' && ch != '\\' {
+        text.push(ch)
+    } else {
+        push_escape(text, ch)
+    }
+}
+
+/// Writes the characters of a text as they are between quotes.
+fn push_each(text: &mut String, source: &str) -> Result<(), AllocError>
+    ensures { OnOk result
+        (string_bytes text.new ≡ string_bytes text.old ++ quote_escaped source.now) }
+{
+    for ch in source.chars() {
+        push_escaped(text, ch)?;
+    }
+    Ok(())
+}
+
+/// Whether a byte is not escaped between quotes.
+fn is_unescaped(byte: u8) -> bool
+    ensures { result ≡ is_unescaped byte }
+{
+    byte >= b' ' && byte != b'"' && byte != b'\\'
+}
+
+/// Whether none of these bytes is escaped between quotes.
+fn are_unescaped(bytes: &[u8]) -> bool
+    ensures { result ≡ list_all is_unescaped bytes.now }
+{
+    bytes.iter().all(|byte| is_unescaped(*byte))
+}
+
+/// Writes a text as it is between quotes: at once, where nothing in it is escaped.
+fn push_escaped_text(text: &mut String, source: &str) -> Result<(), AllocError>
+    ensures { OnOk result
+        (string_bytes text.new ≡ string_bytes text.old ++ quote_escaped source.now) }
+{
+    if are_unescaped(source.as_bytes()) {
+        return text.push_str(source);
+    }
+    push_each(text, source)
+}
+
+/// Writes a text between quotes.
+fn push_quoted(text: &mut String, source: &str) -> Result<(), AllocError>
+    ensures { OnOk result (string_bytes text.new ≡ string_bytes text.old ++ quoted source.now) }
+{
+    text.push('"')?;
+    push_escaped_text(text, source)?;
+    text.push('"')
 }

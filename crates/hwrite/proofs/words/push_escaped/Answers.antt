@@ -1,6 +1,6 @@
 use Rattle.hwrite.proofs.Vocabulary.{rules}
 use Rattle.hwrite.proofs.Escapes.{escaped-plain}
-use Rattle.hwrite.proofs.quoted.push_escaped.Goals as goal
+use Rattle.hwrite.proofs.words.push_escaped.Goals as goal
 
 pub returns-then-ch-ne92 : goal.returns-then-ch-ne92
 returns-then-ch-ne92 c =

@@ -1,6 +1,6 @@
 use Rattle.hwrite.proofs.Vocabulary.{◌≡◌, ℕ, List, true, rules, sym, ◌∙◌, subst, list_all, is_unescaped}
 use Rattle.hwrite.proofs.Escapes.{escaped-unescaped}
-use Rattle.hwrite.proofs.quoted.push_escaped_text.Goals as goal
+use Rattle.hwrite.proofs.words.push_escaped_text.Goals as goal
 
 pub returns-then-are_unescaped : goal.returns-then-are_unescaped
 returns-then-are_unescaped c =

@@ -1,7 +1,7 @@
 use Rattle.std.proofs.Common.{◌<◌, ◌/◌, ◌%◌, arith, get_or, length, get_or-set_other, get_or-set_same, inl, inr, refl}
 use Rattle.std.proofs.lemmas.Bool.{cases_eq}
 use Rattle.hwrite.proofs.KindLemmas.{written_before, written_here}
-use Rattle.hwrite.proofs.byte_kinds.set_kind.Goals as goal
+use Rattle.hwrite.proofs.line_index.set_kind.Goals as goal
 
 pub returns-clause-here : goal.returns-clause-here
 returns-clause-here c =

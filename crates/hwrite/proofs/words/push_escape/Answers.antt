@@ -1,6 +1,6 @@
 use Rattle.hwrite.proofs.Vocabulary.{◌<◌, arith}
 use Rattle.hwrite.proofs.Escapes.{escaped_byte-hex}
-use Rattle.hwrite.proofs.quoted.push_escape.Goals as goal
+use Rattle.hwrite.proofs.words.push_escape.Goals as goal
 
 pub returns-else-ch-eq10 : goal.returns-else-ch-eq10
 returns-else-ch-eq10 c =
