@@ -10,21 +10,18 @@ use std::test::Fail;
 
 /// Gives a byte a read, and fails where there is no more.
 #[derive(Drop)]
-struct Broken<'a> {
-    bytes: &'a [u8],
-    at: usize,
-}
+struct Broken<'a>(&'a [u8]);
 
 impl Read for Broken<'_> {
     fn read(&mut self, buffer: &mut [u8]) -> io::Result<usize> {
-        let Some(byte) = self.bytes.get(self.at) else {
+        let Some((byte, rest)) = self.0.split_first() else {
             return Err(io::ErrorKind::Interrupted.into());
         };
         let Some(place) = buffer.first_mut() else {
             return Ok(0);
         };
         *place = *byte;
-        self.at = self.at.saturating_add(1);
+        self.0 = rest;
         Ok(1)
     }
 }
@@ -56,8 +53,7 @@ fn takes(
     text: &str,
     refusal: Refusal,
 ) -> bool {
-    let bytes = input.as_bytes();
-    let mut source = Counted::new(Broken { bytes, at: 0 });
+    let mut source = Counted::new(Broken(input.as_bytes()));
     let (sink, answer) = read_into(alloc, 2, options, Taken::new(alloc, left), &mut source);
     let refused = u32::from(refusal == Refusal::Write);
     answer.err() == Some(refusal) && sink.text.as_str() == text && sink.refused == refused
@@ -68,11 +64,11 @@ fn all_take(alloc: Global) -> Result<bool, Refusal> {
     let table = Table::core(alloc)?;
     let quirks = Quirks::read(alloc, "")?;
     let options = Options::new(&table, &quirks, Keys::for_tests());
-    let mut all = true;
-    for (input, left, text, refusal) in ENDED {
-        all = all && takes(alloc, &options, input, left, text, refusal);
-    }
-    Ok(all)
+    Ok(
+        ENDED.iter().all(|(input, left, text, refusal)| {
+            takes(alloc, &options, input, *left, text, *refusal)
+        }),
+    )
 }
 
 #[test]

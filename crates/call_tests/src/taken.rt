@@ -5,7 +5,7 @@ use htoken::{Token, TokenSink};
 use names::{Names, ParseError, Refusal};
 use std::alloc::Global;
 
-/// What it took: the characters as they are, a letter for each other token, and `!` for an error. It refuses what is more than `left`,
+/// What it took: the characters as they are, `S` for a start tag, `.` for another token, and `!` for an error. It refuses what is more than `left`,
 /// and counts what it refused.
 #[derive(Drop)]
 pub struct Taken {
@@ -61,11 +61,8 @@ impl TokenSink for Taken {
 /// The letter of a token.
 fn letter(token: &Token) -> char {
     match token {
-        Token::Doctype { .. } => 'D',
         Token::Start { .. } => 'S',
-        Token::End { .. } => 'E',
-        Token::Comment { .. } => 'C',
         Token::Char { ch, .. } => *ch,
-        Token::Eof { .. } => '.',
+        _ => '.',
     }
 }
