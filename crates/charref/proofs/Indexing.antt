@@ -1,35 +1,28 @@
 -- The index of the bytes after the `&`.
-use Rattle.charref.proofs.Names.{arith, ◌≡◌, inl, inr, ℕ, ◌+◌, ◌≤◌, ◌<◌, Bool, true, false, nat_lt, ◌&&◌, List, [], ◌∷◌, ◌++◌, length, slice_get, get_or, Option, Some, None, nat_le, refl, sym, ap, ◌∙◌, subst, length-append, and_from, and_parts, nat_tests, slice_get_within, slice_get-get_or, get_or_from_slice_get, Search, Entry, Entities, code_at, IsSortedTable, IsRange, IsRising, IsParted, IsStart, IsIndex, SearchHasRead}
+use Rattle.charref.proofs.Names.{arith, ◌≡◌, ◌⊎◌, inl, inr, ℕ, zero, suc, some_same, ◌+◌, ◌≤◌, ◌<◌, true, ◌&&◌, List, [], ◌∷◌, ◌++◌, length, slice_get, get_or, Option, Some, None, nat_le, refl, sym, ap, ◌∙◌, subst, length-append, and_from, and_parts, nat_tests, slice_get_within, slice_get-get_or, Search, Entry, Entities, code_at, IsSortedTable, IsRange, IsRising, IsParted, IsStart, IsIndex, SearchHasRead}
 use Rattle.std.proofs.Common.{IfSome}
-use Rattle.std.proofs.lemmas.List.{get_or_append_left, get_or-append-add}
 use Rattle.std.proofs.lemmas.Bool.{cases_lt}
 use Rattle.std.proofs.lemmas.Option.{slice_get_cases}
 use Rattle.charref.specs.Table.{is_place, is_search_within}
 use Rattle.charref.proofs.Ranges.{range_rises, range_more}
 use Rattle.charref.proofs.Searching.{read_ampersand}
 
+-- what is at a place of a list with one element more
+at_or_last : {A : Type 0} (xs : List A) (y z : A) (i : ℕ) → slice_get (xs ++ y ∷ []) i ≡ Some z → (slice_get xs i ≡ Some z) ⊎ ((length xs ≡ i) × (y ≡ z))
+at_or_last [] y z zero h = inr (refl, some_same y z h)
+at_or_last [] y z (suc i) h = absurd (cc)
+at_or_last (x ∷ xs) y z zero h = inl h
+at_or_last (x ∷ xs) y z (suc i) h = elim (at_or_last xs y z i h) [ inl before ↦ inl before | inr last ↦ inr (ap suc last.0, last.1) ]
+
 -- one start more
 pub start_more : (table : Entities) (starts : List ℕ) (count place : ℕ) → IsIndex table starts count → IsStart table place count → IsIndex table (starts ++ place ∷ []) (count + 1)
 start_more table starts count place index start = record {
-  size = (let more : length (starts ++ place ∷ []) ≡ length starts + 1 = length-append starts (place ∷ []) in let was : length starts ≡ count = index.size in omega arith);
-  at = λ code other got. by code other got (nat_lt code count) refl;
+  size = length-append starts (place ∷ []) ∙ ap (λ n. n + 1) index.size;
+  at = λ code other got. elim (at_or_last starts place other code got) [
+    | inl before ↦ index.at code other before
+    | inr last ↦ subst (λ p. IsStart table p code) last.1 (subst (IsStart table place) (sym index.size ∙ last.0) start)
+  ];
 }
-  where
-    by : (code other : ℕ) → slice_get (starts ++ place ∷ []) code ≡ Some other → (b : Bool) → nat_lt code count ≡ b → IsStart table other code
-    by code other got true test =
-        let was : length starts ≡ count = index.size in
-        let less : code < length starts = grind (arith, nat_tests) in
-        let same : get_or starts code other ≡ other = sym (get_or_append_left starts (place ∷ []) other code less) ∙ get_or_from_slice_get (starts ++ place ∷ []) code other other got in
-        index.at code other (slice_get-get_or starts code other less ∙ ap Some same)
-    by code other got false test =
-        let was : length starts ≡ count = index.size in
-        let more : length (starts ++ place ∷ []) ≡ length starts + 1 = length-append starts (place ∷ []) in
-        let less : code < length (starts ++ place ∷ []) = slice_get_within (starts ++ place ∷ []) code other got in
-        let least : count ≤ code = grind (arith, nat_tests) in
-        let last : code ≡ length starts + 0 = omega arith in
-        let same : place ≡ other = sym (get_or-append-add starts (place ∷ []) 0 other) ∙ ap (λ n. get_or (starts ++ place ∷ []) n other) (sym last) ∙ get_or_from_slice_get (starts ++ place ∷ []) code other other got in
-        let code-is : count ≡ code = omega arith in
-        subst (λ n. IsStart table other n) code-is (subst (λ n. IsStart table n count) same start)
 
 -- All before this place are below the code.
 abbrev pub AreBelow : Entities → ℕ → ℕ → Type 0

@@ -1,7 +1,8 @@
 -- Each text that begins with `&` begins with a reference.
-use Rattle.charref.proofs.Names.{arith, ◌≡◌, inl, inr, ℕ, zero, suc, ◌-◌, ◌≤◌, Bool, true, false, not, ◌&&◌, ◌||◌, ◌==◌, cond, List, [], ◌∷◌, ◌++◌, length, take, drop, Option, Some, None, refl, sym, ap, ◌∙◌, subst, append_assoc, and_parts, false≢true, nat_tests, take-append-drop, to_ascii_lowercase, Placed, characters, begins, is_digit, is_alphanumeric, Entry, Entities, IsTable, longest, is_kept_as_text, is_hex_digit, begins_number, is_semicolon_if_any, named, kept, unknown, decimal, hexadecimal, no_digits, alone}
+use Rattle.charref.proofs.Names.{arith, ◌≡◌, inl, inr, ℕ, zero, suc, ◌-◌, ◌≤◌, Bool, true, false, not, ◌&&◌, ◌||◌, ◌==◌, cond, List, [], ◌∷◌, ◌++◌, length, take, drop, Option, Some, None, refl, sym, ap, ◌∙◌, subst, append_assoc, and_parts, false≢true, nat_tests, take-append-drop, to_ascii_lowercase, Placed, characters, begins, is_digit, is_alphanumeric, Entry, Entities, IsTable, longest, is_kept_as_text, is_hex_digit, begins_number, is_semicolon_if_any, codes, IsReference, named, kept, unknown, decimal, hexadecimal, no_digits, alone}
 use Rattle.std.proofs.lemmas.Bool.{or_cases}
-use Rattle.names.specs.Placed.{RunsTo}
+use Rattle.names.specs.Placed.{lowered, RunsTo}
+use Rattle.charref.specs.Reference.{numeric_piece}
 use Rattle.charref.specs.Open.{HasReference}
 use Rattle.charref.proofs.Core.{longest_among}
 use Rattle.charref.proofs.Naming.{key_of, take-map, is_key_of, key_opens}
@@ -65,40 +66,29 @@ front_of_length (suc n) p ps l =
 
 module _ (table : Entities) (in_value : Bool) (is_table : IsTable table) (amp : Placed) (is : amp.ch ≡ 38) where
   -- numbers
-  decimal_here : (q : Placed) (text : List Placed) → (q.ch == 35) ≡ true → begins is_digit text ≡ true → HasReference table in_value (amp ∷ q ∷ text)
-  decimal_here q text sign digit =
-      let k = close_of (after_run is_digit text) in
+  number_here : (base : ℕ) (test : ℕ → Bool) (opening text : List Placed)
+      → ((digits close rest : List Placed) → begins test digits ≡ true → RunsTo (λ c. not (test c)) digits (close ++ rest) → is_semicolon_if_any close rest ≡ true → IsReference table in_value rest (numeric_piece base opening digits close))
+      → begins test text ≡ true → HasReference table in_value (opening ++ text)
+  number_here base test opening text production digit =
+      let k = close_of (after_run test text) in
+      let digits : List Placed = run test text in
       record {
         piece = _;
         rest = k.rest;
-        text_is = ap (λ (xs : List Placed). amp ∷ q ∷ xs) (run_split is_digit text ∙ ap (λ (xs : List Placed). run is_digit text ++ xs) k.after_is ∙ sym (append_assoc (run is_digit text) k.close k.rest));
-        is_reference = decimal (amp ∷ q ∷ []) (run is_digit text) k.close
-            (ap (λ (c : ℕ). c ∷ q.ch ∷ []) is ∙ ap (λ (c : ℕ). 38 ∷ c ∷ []) (sign_code q.ch sign))
-            (run_begins is_digit text digit)
-            (subst (RunsTo (λ c. not (is_digit c)) (run is_digit text)) k.after_is (runs_to is_digit text)) k.closes refl;
-      }
-
-  hexadecimal_here : (q x : Placed) (text : List Placed) → (q.ch == 35) ≡ true → (x.ch == 120 || x.ch == 88) ≡ true → begins is_hex_digit text ≡ true → HasReference table in_value (amp ∷ q ∷ x ∷ text)
-  hexadecimal_here q x text sign mark digit =
-      let k = close_of (after_run is_hex_digit text) in
-      record {
-        piece = _;
-        rest = k.rest;
-        text_is = ap (λ (xs : List Placed). amp ∷ q ∷ x ∷ xs) (run_split is_hex_digit text ∙ ap (λ (xs : List Placed). run is_hex_digit text ++ xs) k.after_is ∙ sym (append_assoc (run is_hex_digit text) k.close k.rest));
-        is_reference = hexadecimal (amp ∷ q ∷ x ∷ []) (run is_hex_digit text) k.close
-            (ap (λ (c : ℕ). to_ascii_lowercase c ∷ to_ascii_lowercase q.ch ∷ to_ascii_lowercase x.ch ∷ []) is ∙ ap (λ (c : ℕ). 38 ∷ to_ascii_lowercase c ∷ to_ascii_lowercase x.ch ∷ []) (sign_code q.ch sign)
-            ∙ ap (λ (c : ℕ). 38 ∷ 35 ∷ c ∷ []) (x_of x.ch mark))
-            (run_begins is_hex_digit text digit)
-            (subst (RunsTo (λ c. not (is_hex_digit c)) (run is_hex_digit text)) k.after_is (runs_to is_hex_digit text)) k.closes refl;
+        text_is = ap (λ (xs : List Placed). opening ++ xs) (run_split test text ∙ ap (λ (xs : List Placed). digits ++ xs) k.after_is) ∙ sym (append_assoc (opening ++ digits) k.close k.rest ∙ append_assoc opening digits (k.close ++ k.rest));
+        is_reference = production digits k.close k.rest (run_begins test text digit) (subst (RunsTo (λ c. not (test c)) digits) k.after_is (runs_to test text)) k.closes;
       }
 
   number_by : (q : Placed) (text : List Placed) (digit : Bool) → (q.ch == 35) ≡ true → begins is_digit text ≡ digit
       → ((q.ch == 35 && true) && (digit || (begins (λ c. c == 120 || c == 88) text && begins is_hex_digit (drop 1 text)))) ≡ true → HasReference table in_value (amp ∷ q ∷ text)
-  number_by q text true sign e h = decimal_here q text sign e
+  number_by q text true sign e h =
+      let opens : characters (amp ∷ q ∷ []) ≡ codes "&#" = λ i. is i ∷ sign_code q.ch sign i ∷ [] in
+      number_here 10 is_digit (amp ∷ q ∷ []) text (λ digits close rest d r s. decimal (amp ∷ q ∷ []) digits close opens d r s refl) e
   number_by q [] false sign e h = absurd (false≢true (and_parts (q.ch == 35 && true) false h).1)
   number_by q (x ∷ xs) false sign e h =
       let marks = and_parts (x.ch == 120 || x.ch == 88) (begins is_hex_digit xs) (and_parts (q.ch == 35 && true) ((x.ch == 120 || x.ch == 88) && begins is_hex_digit xs) h).1 in
-      hexadecimal_here q x xs sign marks.0 marks.1
+      let opens : lowered (amp ∷ q ∷ x ∷ []) ≡ codes "&#x" = λ i. to_ascii_lowercase (is i) ∷ to_ascii_lowercase (sign_code q.ch sign i) ∷ x_of x.ch marks.0 i ∷ [] in
+      number_here 16 is_hex_digit (amp ∷ q ∷ x ∷ []) xs (λ digits close rest d r s. hexadecimal (amp ∷ q ∷ x ∷ []) digits close opens d r s refl) marks.1
 
   sign_by : (text : List Placed) (number : Bool) → begins (λ c. c == 35) text ≡ true → begins_number text ≡ number → HasReference table in_value (amp ∷ text)
   sign_by text false sign e = record { piece = _; rest = text; text_is = refl; is_reference = no_digits amp is sign e refl }

@@ -32,7 +32,11 @@ pub record IsRead (table : Entities) (in_value : Bool) (text after : List Placed
   pub reads : (amp : Placed) → amp.ch ≡ 38 → IsReference table in_value (drop (length text - found.left) text ++ after)
       (record { text = amp ∷ take (length text - found.left) text; gives = characters_of found.characters; errors = errors_of found amp.at after })
 
--- an `&` that is text because no key matches
+-- an `&` that is text, where `left` characters were read after it
+abbrev pub text_reference : ℕ → Option ErrorCode → Bool → Reference
+text_reference left fault ambiguous = record { characters = One 38; left = left; missing_semicolon = false; fault = fault; is_ambiguous = ambiguous }
+
+-- the same because no key matches
 abbrev pub unknown_fault : Last → Option ErrorCode
 unknown_fault Alphanumeric = None
 unknown_fault Semicolon = Some UnknownNamedCharacterReference
@@ -40,8 +44,7 @@ unknown_fault Equals = None
 unknown_fault Other = None
 
 abbrev pub unknown_of : ℕ → Last → Reference
-unknown_of left last =
-    record { characters = One 38; left = left; missing_semicolon = false; fault = unknown_fault last; is_ambiguous = is_letter_or_digit last }
+unknown_of left last = text_reference left (unknown_fault last) (is_letter_or_digit last)
 
 -- a numeric reference
 abbrev pub number_reference : ℕ → ℕ → Bool → Reference

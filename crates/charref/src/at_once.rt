@@ -26,21 +26,19 @@ impl<'t> Walk<'t> {
             → IsRead table.now false (placed at (take it.1 bytes.now)) after it.0) }
         ensures none { IsNone result → SettlesNothing table.now bytes.now }
     {
-        if let Some(first) = bytes.first() {
-            let first = *first;
-            if first.is_ascii_alphanumeric()
-                && let Some(search) = Search::after_first(
-                    &table.flat,
-                    &table.starts,
-                    char::from(first),
-                )
-            {
-                if search.is_over() {
+        if let Some(first) = bytes.first()
+            && let Some(search) = Search::after_first(
+                &table.flat,
+                &table.starts,
+                char::from(*first),
+            )
+        {
+            if search.is_over() {
+                if first.is_ascii_alphanumeric() {
                     return Some((unknown(1, Last::Alphanumeric), 1));
                 }
-                if let Some(place) = whole_place(table, search, bytes) {
-                    return Some(whole_key(table, place));
-                }
+            } else if let Some(place) = whole_place(table, search, bytes) {
+                return Some(whole_key(table, place));
             }
         }
         // (taken apart and put together again: so the result comes back in registers, and not through memory)
@@ -85,11 +83,8 @@ fn is_whole_by_itself(flat: &Flat, index: usize, bytes: &[u8]) -> bool
 fn settled_otherwise(table: &Table, bytes: &[u8]) -> Option<(Reference, usize)>
     ensures { MatchOption result (SettlesNothing table.now bytes.now) (λ it. Settles table.now bytes.now it.1 it.0) }
 {
-    if let Some(first) = bytes.first() {
-        let first = *first;
-        if first == b'#' {
-            return settled_number(table, bytes);
-        }
+    if let [b'#', ..] = bytes {
+        return settled_number(table, bytes);
     }
     match settled_by_key(table, bytes) {
         Some(it) => Some(it),

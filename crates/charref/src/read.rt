@@ -1,7 +1,7 @@
 //! Reading a table from JSON text.
 
-ghost use Rattle.std.specs.Prelude.{◌≡◌, ℕ, List, ◌++◌, true, Ok, Err, Some, IfOk, IfErr, IfSome, option_map};
-ghost use Rattle.charref.specs.Vocabulary.{get, as_str, as_array, TableFault, view, items_view, members_view, IsMemory, Entry, Entities, codepoint, codepoints, fields, entry_of_json, entry_of_characters, entities_of, table_of_json, IsRefusedWith, characters_of, flat_entry, flat_of, is_one_or_two, is_table_entry, IsReadable};
+ghost use Rattle.std.specs.Prelude.{◌≡◌, ◌++◌, true, Ok, Err, Some, IfOk, IfErr, IfSome, option_map};
+ghost use Rattle.charref.specs.Vocabulary.{get, as_str, as_array, TableFault, view, items_view, members_view, IsMemory, Entry, Entities, codepoint, codepoints, fields, entry_of_json, entities_of, table_of_json, IsRefusedWith, characters_of, flat_entry, flat_of, is_one_or_two, is_table_entry, IsReadable};
 
 use crate::entries::{add_flat, character};
 use crate::key::is_key;

@@ -58,22 +58,6 @@ fn is_in_names(ch: char) -> bool
 }
 
 impl Search {
-    /// A look-up that has read nothing.
-    pub(crate) fn new(flat: &Flat) -> Search
-        requires sorted { IsSortedTable flat.now }
-        ensures read { SearchHasRead result flat.now [] }
-        ensures within { (result.low ≡ 0) × (result.high ≡ length flat.now) }
-        ensures best { result.best ≡ None }
-        ensures depth { result.depth ≡ 0 }
-    {
-        Search {
-            depth: 0,
-            low: 0,
-            high: flat.len(),
-            best: None,
-        }
-    }
-
     /// A look-up that has read an `&`: every key begins with it, and no key is it alone.
     pub(crate) fn after_ampersand(flat: &Flat) -> Search
         requires sorted { IsSortedTable flat.now }
@@ -205,7 +189,12 @@ pub(crate) fn search_for(flat: &Flat, text: &[u8]) -> Search
     ensures within { IfSome result.best (λ k. k < length flat.now) }
     ensures best { best_entry flat.now result.best ≡ longest flat.now text.now }
 {
-    let mut search = Search::new(flat);
+    let mut search = Search {
+        depth: 0,
+        low: 0,
+        high: flat.len(),
+        best: None,
+    };
     for byte in text {
         if search.is_over() {
             return search;

@@ -1,9 +1,8 @@
 //! The steps of a walk.
 
 ghost use Rattle.std.specs.Prelude.{◌≡◌, ◌+◌, [], ◌∷◌, ◌++◌, Bool, true, false, ◌&&◌, ℕ, List, length, Some, IfSome, IsSome, IsNone, MatchOption, ◌<◌, ◌≤◌};
-ghost use Rattle.charref.specs.Vocabulary.{Placed, all, is_empty, is_alphanumeric, Entities, IsTable, longest, ends_in_semicolon, best_entry, is_search_within, has_read_key, SearchHasRead, HasNone, key_bytes, is_number, IsHeldReference, IsSign, last_of, is_letter_or_digit, IsSettled, IsRead, unknown_of, number_reference, WalkHasTaken, TakesCharacter, NextIs, LeavesLast, StaysNumber, is_next_within};
+ghost use Rattle.charref.specs.Vocabulary.{Placed, all, is_empty, is_alphanumeric, Entities, IsTable, longest, ends_in_semicolon, best_entry, is_search_within, has_read_key, SearchHasRead, HasNone, key_bytes, is_number, IsHeldReference, IsSign, last_of, IsSettled, IsRead, text_reference, unknown_of, number_reference, WalkHasTaken, TakesCharacter, NextIs, LeavesLast, StaysNumber, is_next_within};
 
-use crate::flat::Flat;
 use crate::last::{Last, is_kept};
 use crate::number::{Base, TOO_GREAT, number_fault, numbered};
 use crate::reference::{Characters, Reference};
@@ -97,7 +96,7 @@ impl<'t> Walk<'t> {
 
 /// An `&` that is text, where `left` characters were read after it.
 fn as_text(left: usize, fault: Option<ErrorCode>, is_ambiguous: bool) -> Reference
-    ensures { result ≡ record { characters = Characters.One 38; left = left; missing_semicolon = false; fault = fault; is_ambiguous = is_ambiguous } }
+    ensures { result ≡ text_reference left fault is_ambiguous }
 {
     Reference {
         characters: Characters::One('&'),
@@ -110,13 +109,7 @@ fn as_text(left: usize, fault: Option<ErrorCode>, is_ambiguous: bool) -> Referen
 
 /// An `&` that is text because no digit follows `#` or `#x`.
 fn no_digits(left: usize) -> Reference
-    ensures { result ≡ record {
-      characters = Characters.One 38;
-      left = left;
-      missing_semicolon = false;
-      fault = Some ErrorCode.AbsenceOfDigitsInNumericCharacterReference;
-      is_ambiguous = false;
-    } }
+    ensures { result ≡ text_reference left (Some ErrorCode.AbsenceOfDigitsInNumericCharacterReference) false }
 {
     as_text(
         left,
@@ -235,16 +228,6 @@ fn after_digits(base: Base, value: u32, ch: char) -> Next
     }
 }
 
-/// Whether the characters read are a key that must wait for the next character, by the rule for attribute values
-/// (`#named-character-reference-state`).
-#[inline(always)]
-fn waits(in_value: bool, last: Last, search: Search, flat: &Flat) -> bool
-    requires { IfSome search.best (λ k. k < length flat.now) }
-    ensures { result ≡ (in_value && is_letter_or_digit last && has_read_key flat.now search) }
-{
-    in_value && last.is_alphanumeric() && search.has_read_key(flat)
-}
-
 /// The look-up after one more character, if some key may begin with it: right after the `&`, by the table's index.
 #[inline(always)]
 fn extended(table: &Table, search: Search, ch: char) -> Option<Search>
@@ -300,7 +283,7 @@ fn after_name(table: &Table, in_value: bool, search: Search, ch: char) -> Next
     if next.goes_on(&table.flat) {
         return Next::Goes(ReferenceState::Name(next));
     }
-    if waits(in_value, last, next, &table.flat) {
+    if in_value && last.is_alphanumeric() && next.has_read_key(&table.flat) {
         return Next::Goes(ReferenceState::Name(next));
     }
     Next::Ended(decided(table, in_value, next.best, search.depth, last))

@@ -1,6 +1,9 @@
 use Rattle.charref.proofs.Names.{take, drop, sym, subst, take-append-drop, take_more, SearchHasRead}
-use Rattle.charref.proofs.Searching.{read_over}
+use Rattle.charref.proofs.Searching.{read_nothing, read_over}
 use Rattle.charref.proofs.search.search_for.Goals as goal
+
+pub loop-byte-init : goal.loop-byte-init
+loop-byte-init c = read_nothing c.args.flat.now _ c.requires.sorted c.len.ensures
 
 pub returns-then-is_over-clause-best : goal.returns-then-is_over-clause-best
 returns-then-is_over-clause-best c = read_over c.args.flat.now c.loop-byte.search (take c.loop-byte.byte-index c.args.text.now) (drop c.loop-byte.byte-index c.args.text.now) c.args.text.now

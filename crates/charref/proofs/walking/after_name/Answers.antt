@@ -1,10 +1,11 @@
-use Rattle.charref.proofs.Names.{arith, nat_tests, nat_eq, NumberSign, IsRead, ◌≡◌, [], ◌∷◌, ◌++◌, true, false, true≢false, ◌&&◌, refl, sym, ap, ◌∙◌, subst, ◌≤◌, length, and_parts, all-one, characters, is_empty, is_alphanumeric, Entities, IsTable, has_read_key, SearchHasRead, HasNone, IsOver, key_bytes, in_name, last_of, is_letter_or_digit, NextIs}
+use Rattle.charref.proofs.Names.{arith, nat_tests, nat_eq, NumberSign, IsRead, ◌≡◌, [], ◌∷◌, ◌++◌, true, false, true≢false, ◌&&◌, refl, sym, ap, ◌∙◌, subst, ◌≤◌, length, all-one, characters, is_empty, is_alphanumeric, Entities, IsTable, has_read_key, SearchHasRead, HasNone, IsOver, key_bytes, in_name, last_of, is_letter_or_digit, NextIs}
+use Rattle.std.proofs.Math.Bool.{and-false}
 use Rattle.charref.proofs.Extending.{key_bytes-more, held_longer, best_before, settled_before, best_after, settled_after, letter_of, nothing_read, something_read, count_read}
 use Rattle.charref.proofs.Indexing.{is_within}
 use Rattle.charref.specs.declared.walking.Next.TheVariants.{Goes}
 use Rattle.charref.proofs.Numbers.{one_number_sign, alone_before}
 use Rattle.charref.proofs.walking.after_name.Goals as goal
-use Rattle.charref.proofs.walking.after_name.Goals.{else-search-eq1-via-then-search-eq1+else-not-is_alphanumeric, else-search-eq1-via-else-search-eq1}
+use Rattle.charref.proofs.walking.after_name.Goals.{else-in_value-via-then-in_value+then-is_alphanumeric+else-has_read_key, else-in_value-via-then-in_value+else-is_alphanumeric, else-in_value-via-else-in_value, else-search-eq1-via-then-search-eq1+else-not-is_alphanumeric, else-search-eq1-via-else-search-eq1}
 
 pub returns-then-ch-eq35-clause-next : goal.returns-then-ch-eq35-clause-next
 returns-then-ch-eq35-clause-next c = λ text p read run is.
@@ -34,15 +35,13 @@ returns-then-goes_on-clause-next c = λ text p read run is.
     held_longer c.args.table.now c.args.in_value c.in-Some.next text p c.args.ch (subst IsTable c.table.view_is c.table.invariant.0.sorted.is_table) is (c.in-Some.ensures.read (characters text) read)
     (λ bytes now. (rw c.table.view_is at c.goes_on.ensures.open) bytes now c.if-goes_on.true)
 
-pub returns-then-waits-clause-next : goal.returns-then-waits-clause-next
-returns-then-waits-clause-next c = λ text p read run is.
+pub returns-then-has_read_key-clause-next : goal.returns-then-has_read_key-clause-next
+returns-then-has_read_key-clause-next c = λ text p read run is.
     let table : Entities = c.args.table.now in
     let next : SearchHasRead c.in-Some.next table (key_bytes (text ++ p ∷ [])) =
     subst (SearchHasRead c.in-Some.next table) (ap (λ x. key_bytes text ++ x ∷ []) (sym is) ∙ sym (key_bytes-more text p)) (c.in-Some.ensures.read (characters text) read) in
-    let parts : ((c.args.in_value && is_letter_or_digit c.of-last.result) ≡ true) × (has_read_key c.table.inside.flat c.in-Some.next ≡ true) = and_parts _ _ (sym c.waits.ensures ∙ c.if-waits.true) in
-    let more : (c.args.in_value ≡ true) × (is_letter_or_digit c.of-last.result ≡ true) = and_parts _ _ parts.0 in
-    let letter : is_alphanumeric p.ch ≡ true = ap is_alphanumeric is ∙ sym (letter_of c.args.ch) ∙ ap is_letter_or_digit (sym c.of-last.ensures) ∙ more.1 in
-    in_name c.in-Some.next (text ++ p ∷ []) next (all-one is_alphanumeric text p run letter) (λ outside some. absurd (true≢false (sym more.0 ∙ outside)))
+    let letter : is_alphanumeric p.ch ≡ true = ap is_alphanumeric is ∙ sym (letter_of c.args.ch) ∙ ap is_letter_or_digit (sym c.of-last.ensures) ∙ sym c.is_alphanumeric-then-in_value.ensures ∙ c.if-is_alphanumeric.true in
+    in_name c.in-Some.next (text ++ p ∷ []) next (all-one is_alphanumeric text p run letter) (λ outside some. absurd (true≢false (sym c.if-in_value.true ∙ outside)))
 
 pub returns-clause-next : goal.returns-clause-next
 returns-clause-next c = λ text p read run is after.
@@ -52,7 +51,13 @@ returns-clause-next c = λ text p read run is after.
     let is_table : IsTable table = subst IsTable c.table.view_is c.table.invariant.0.sorted.is_table in
     let letter : is_letter_or_digit c.of-last.result ≡ is_alphanumeric p.ch = ap is_letter_or_digit c.of-last.ensures ∙ letter_of c.args.ch ∙ ap is_alphanumeric (sym is) in
     let waits : (c.args.in_value && is_alphanumeric p.ch && has_read_key table c.in-Some.next) ≡ false =
-    ap (λ b. c.args.in_value && b && has_read_key table c.in-Some.next) (sym letter) ∙ ap (λ t. c.args.in_value && is_letter_or_digit c.of-last.result && has_read_key t c.in-Some.next) (sym c.table.view_is) ∙ sym c.waits.ensures ∙ c.if-waits.false in
+    elim c.else-in_value.branch [
+      | else-in_value-via-then-in_value+then-is_alphanumeric+else-has_read_key w ↦
+          ap (λ b. c.args.in_value && is_alphanumeric p.ch && b) (ap (λ t. has_read_key t c.in-Some.next) (sym c.table.view_is) ∙ sym w.has_read_key.ensures ∙ w.if-has_read_key.false) ∙ and-false _
+      | else-in_value-via-then-in_value+else-is_alphanumeric w ↦
+          ap (λ b. c.args.in_value && b && has_read_key table c.in-Some.next) (sym letter ∙ sym w.is_alphanumeric-then-in_value.ensures ∙ w.if-is_alphanumeric.false) ∙ ap (λ b. b && has_read_key table c.in-Some.next) (and-false _)
+      | else-in_value-via-else-in_value w ↦ ap (λ b. b && is_alphanumeric p.ch && has_read_key table c.in-Some.next) w.if-in_value.false
+    ] in
     let first : is_empty text ≡ true → is_alphanumeric p.ch ≡ true = something_read text (is_alphanumeric p.ch ≡ true) (λ one. elim c.else-search-eq1.branch [
       | else-search-eq1-via-then-search-eq1+else-not-is_alphanumeric w ↦ ap is_alphanumeric is ∙ sym (letter_of c.args.ch) ∙ ap is_letter_or_digit (sym c.of-last.ensures) ∙ sym w.is_alphanumeric.ensures ∙ w.if-not-is_alphanumeric.false
       | else-search-eq1-via-else-search-eq1 w ↦ absurd (w.if-search-eq1.false (read.depth ∙ one))

@@ -1,22 +1,16 @@
 use Rattle.charref.proofs.Names.{◌≡◌, [], ◌∷◌, true, true≢false, sym, ◌∙◌, subst, slice_get_within, is_alphanumeric, SearchHasRead, IsTable, IsSortedTable, Settles}
 use Rattle.charref.proofs.AtOnce.{letter_of_ascii, no_first}
 use Rattle.charref.proofs.walk.Walk.settled.Goals as goal
-use Rattle.charref.proofs.walk.Walk.settled.Goals.{After-unknown}
 
--- where no key begins with the first letter
-none_begins : (c : After-unknown) → Settles c.args.table.now c.args.bytes.now 1 c.unknown.result
-none_begins c =
+pub returns-then-is_ascii_alphanumeric : goal.returns-then-is_ascii_alphanumeric
+returns-then-is_ascii_alphanumeric c =
     let table = c.args.table.now in
     let search = c.in-Some-after_first.search in
     let byte = c.in-Some.first.now in
     let letter : is_alphanumeric byte ≡ true = letter_of_ascii byte (sym c.is_ascii_alphanumeric.ensures.value ∙ c.if-is_ascii_alphanumeric.true) in
     let read : SearchHasRead search c.table.inside.flat (38 ∷ byte ∷ []) = subst (λ ch. SearchHasRead search c.table.inside.flat (38 ∷ ch ∷ [])) c.from.ensures c.in-Some-after_first.ensures.read in
-    subst (Settles table c.args.bytes.now 1) (sym c.unknown.ensures)
-    (no_first table c.args.bytes.now byte search (subst IsSortedTable c.table.view_is c.table.invariant.0.sorted) c.in-Some.ensures.value letter (subst (λ t. SearchHasRead search t (38 ∷ byte ∷ [])) c.table.view_is read) (c.is_over.ensures.0 c.if-is_over.true))
-
-pub returns-then-is_over : goal.returns-then-is_over
-returns-then-is_over c =
-    let it = none_begins c in
+    let it : Settles table c.args.bytes.now 1 c.unknown.result = subst (Settles table c.args.bytes.now 1) (sym c.unknown.ensures)
+    (no_first table c.args.bytes.now byte search (subst IsSortedTable c.table.view_is c.table.invariant.0.sorted) c.in-Some.ensures.value letter (subst (λ t. SearchHasRead search t (38 ∷ byte ∷ [])) c.table.view_is read) (c.is_over.ensures.0 c.if-is_over.true)) in
     record { table = subst IsTable c.table.view_is c.table.invariant.0.sorted.is_table; few = (it.some, it.few); ascii = it.ascii; read = it.read; none = λ none. absurd (true≢false none) }
 
 pub whole_key-requires : goal.whole_key-requires
