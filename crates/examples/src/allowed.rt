@@ -68,15 +68,13 @@ fn allowed(alloc: Global, page: &Parsed) -> Result<Tree, Refusal> {
         *top = Some(tree.document());
     }
     for node in page.tree.descendants(page.root) {
-        let Some(parent) = page.tree.parent(node) else {
-            continue;
-        };
-        let Some(Some(into)) = copies.get(parent.index()) else {
-            continue;
-        };
-        let copied = copy(alloc, page, node, &mut tree, *into)?;
-        if let Some(slot) = copies.get_mut(node.index()) {
-            *slot = copied;
+        if let Some(parent) = page.tree.parent(node)
+            && let Some(Some(into)) = copies.get(parent.index())
+        {
+            let copied = copy(alloc, page, node, &mut tree, *into)?;
+            if let Some(slot) = copies.get_mut(node.index()) {
+                *slot = copied;
+            }
         }
     }
     Ok(tree)

@@ -13,8 +13,8 @@ pub fn main(rt: HostRuntime) -> anyhow::Result<()> {
 /// Prints the links of the page that the command line names, or why it is refused.
 pub fn print_links(rt: &HostRuntime) -> anyhow::Result<()> {
     let bytes = fs::read(rt, word(rt, 1)?.as_str())?;
-    let entities = text(rt, 2)?;
-    let quirks = text(rt, 3)?;
+    let entities = fs::read_to_string(rt, word(rt, 2)?.as_str())?;
+    let quirks = fs::read_to_string(rt, word(rt, 3)?.as_str())?;
     let keys = Keys::random(rt)?;
     match parse(rt.alloc(), &entities, &quirks, keys, &bytes) {
         Ok(page) => print_each(rt, &page),
@@ -27,11 +27,6 @@ fn word(rt: &HostRuntime, at: usize) -> anyhow::Result<String> {
     env::args(rt)?.nth(at).context(
         "name a page, the table of character references and the quirks list",
     )
-}
-
-/// The text of a file that the command line names.
-fn text(rt: &HostRuntime, at: usize) -> anyhow::Result<String> {
-    Ok(fs::read_to_string(rt, word(rt, at)?.as_str())?)
 }
 
 /// Parses a page in pieces, as they might come from the network.

@@ -4,10 +4,8 @@
 
 use anyhow::Context;
 use hwrite::{
-    Escaping, Keys, Lines, Options, Parsed, Parser, Quirks, Refusal, Table, Tag,
-    serialize_outer_to_vec,
+    Escaping, Keys, Lines, Options, Parsed, Parser, Quirks, Table, Tag, serialize_outer_to_vec,
 };
-use std::alloc::Global;
 use std::{env, fs};
 
 pub fn main(rt: HostRuntime) -> anyhow::Result<()> {
@@ -18,7 +16,13 @@ pub fn main(rt: HostRuntime) -> anyhow::Result<()> {
 pub fn print_outline(rt: &HostRuntime) -> anyhow::Result<()> {
     let bytes = fs::read(rt, word(rt, 1)?.as_str())?;
     let page = read(rt, &bytes)?;
-    print_all(rt, &page, &bytes)
+    print_attributes(rt, &page)?;
+    print_title(rt, &page)?;
+    print_headings(rt, &page)?;
+    let lines = Lines::of(rt.alloc(), &bytes)?;
+    print_images(rt, &page, &lines)?;
+    print_length(rt, &page)?;
+    print_errors(rt, &page, &lines)
 }
 
 /// A word of the command line.
@@ -28,37 +32,16 @@ fn word(rt: &HostRuntime, at: usize) -> anyhow::Result<String> {
     )
 }
 
-/// The text of a file that the command line names.
-fn text(rt: &HostRuntime, at: usize) -> anyhow::Result<String> {
-    Ok(fs::read_to_string(rt, word(rt, at)?.as_str())?)
-}
-
 /// Reads a page with the lists that the command line names, and keeps where its nodes came from.
 fn read(rt: &HostRuntime, bytes: &[u8]) -> anyhow::Result<Parsed> {
     let keys = Keys::random(rt)?;
-    let table = Table::read(rt.alloc(), &text(rt, 2)?)?;
-    let quirks = Quirks::read(rt.alloc(), &text(rt, 3)?)?;
+    let table = Table::read(rt.alloc(), &fs::read_to_string(rt, word(rt, 2)?.as_str())?)?;
+    let quirks = Quirks::read(rt.alloc(), &fs::read_to_string(rt, word(rt, 3)?.as_str())?)?;
     let mut options = Options::new(&table, &quirks, keys);
     options.places = true;
-    Ok(parse(rt.alloc(), &options, bytes)?)
-}
-
-/// Parses a page with these options.
-fn parse(alloc: Global, options: &Options<'_>, bytes: &[u8]) -> Result<Parsed, Refusal> {
-    let mut parser = Parser::document(alloc, options)?;
+    let mut parser = Parser::document(rt.alloc(), &options)?;
     parser.feed(bytes)?;
-    parser.finish()
-}
-
-/// Prints all of an outline.
-fn print_all(rt: &HostRuntime, page: &Parsed, bytes: &[u8]) -> anyhow::Result<()> {
-    print_attributes(rt, page)?;
-    print_title(rt, page)?;
-    print_headings(rt, page)?;
-    let lines = Lines::of(rt.alloc(), bytes)?;
-    print_images(rt, page, &lines)?;
-    print_length(rt, page)?;
-    print_errors(rt, page, &lines)
+    Ok(parser.finish()?)
 }
 
 /// Prints the attributes of the element that the page is in, such as its language.
@@ -82,25 +65,13 @@ fn print_title(rt: &HostRuntime, page: &Parsed) -> anyhow::Result<()> {
     Ok(())
 }
 
-/// The level of a heading.
-fn level(tag: Tag) -> Option<usize> {
-    match tag {
-        Tag::H1 => Some(1),
-        Tag::H2 => Some(2),
-        Tag::H3 => Some(3),
-        Tag::H4 => Some(4),
-        Tag::H5 => Some(5),
-        Tag::H6 => Some(6),
-        _ => None,
-    }
-}
-
 /// Prints the headings of a page, in their order.
 fn print_headings(rt: &HostRuntime, page: &Parsed) -> anyhow::Result<()> {
     for node in page.tree.descendants(page.root) {
         if let Some(name) = page.tree.name(node) {
-            if let Some(level) = level(name.tag()) {
-                println!(rt; "h{level}: {}", page.tree.text_content(rt.alloc(), node)?)?;
+            if name.tag().is_heading() {
+                let text = page.tree.text_content(rt.alloc(), node)?;
+                println!(rt; "{}: {text}", page.names.text(name))?;
             }
         }
     }
@@ -111,13 +82,8 @@ fn print_headings(rt: &HostRuntime, page: &Parsed) -> anyhow::Result<()> {
 fn print_images(rt: &HostRuntime, page: &Parsed, lines: &Lines) -> anyhow::Result<()> {
     for node in page.tree.descendants(page.root) {
         if page.tree.is(node, Tag::Img) && page.attribute(node, "alt").is_none() {
-            let html = serialize_outer_to_vec(
-                rt.alloc(),
-                &page.tree,
-                &page.names,
-                node,
-                Escaping::Two,
-            )?;
+            let (tree, names) = (&page.tree, &page.names);
+            let html = serialize_outer_to_vec(rt.alloc(), tree, names, node, Escaping::Two)?;
             let (line, column) = lines.line_column(page.place(node).unwrap_or(0));
             println!(rt;
                 "image without alt at line {line}, column {column}: {}",
