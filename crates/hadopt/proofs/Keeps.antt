@@ -1,18 +1,95 @@
--- What a turn of the adoption agency's outer loop keeps, and what its steps ask.
-use Rattle.hadopt.proofs.Names.{◌≡◌, ◌≢◌, ℕ, ◌<◌, Bool, true, false, List, [], ◌∷◌, Some, None, nat_eq, refl, subst, arith, Ok, Err, drop, ◌⊎◌, inl, inr, sym, ◌∙◌, ap, Result, IfOk, IfSome, Refusal, list_any, eq-eqb, cond_both, some_same, or-true, ne_eqb, OpenNode, is_node, is_open, in_scope, furthest_block, above, below, current, before, InPlace, Forest, AreCounted, place_node, at-most, deep-there, is-there, deep, deep-is, deep-self, place_in, stops_in_scope, Default, EntryOf, Listed, marker, entry, is_entry, find_entry, tag_of, ErrorCode, numbers, Goes, SiteOf, stack, trees, with_stack, error_unless, InnerLoop, inner_loop, outer_turn, outer_loop, is_unlisted, adopted, most_turns, Gives, Each, IsSound, AreDifferent, WithFurthestBlock, option_map_or, TreeInBody, current_is, Ended, popped_with, with_furthest_block, with_formatting_element, with_error, cond}
-use Rattle.hadopt.proofs.Choices.{by_test}
-use Rattle.hopen.specs.Stack.{topmost_special}
+-- What a turn of the adoption agency's outer loop keeps, and what its steps ask. In the inner loop the formatting element stays open, its entry
+-- stays in the list, and so does the bookmark.
+use Rattle.hadopt.proofs.Names.{◌≡◌, ◌≢◌, ℕ, suc, ◌<◌, true, not, eqb, leb, cond, ◌||◌, List, [], ◌∷◌, is_some, refl, sym, ◌∙◌, ap, arith, eqb-true, eq-eqb, ne_eqb, cond_both, or-true, list_any, before, OpenNode, is_node, Listed, marker, entry, is_entry, without_entry, for_node, with_node, Bookmark, InPlace, After, numbers, InnerLoop, entries_for, inner_turn, inner_loop, Each, Bool, false, Some, None, nat_eq, subst, Ok, Err, drop, ◌⊎◌, inl, inr, Result, IfOk, IfSome, Refusal, some_same, is_open, in_scope, furthest_block, above, below, current, Forest, AreCounted, place_node, at-most, deep-there, is-there, deep, deep-is, deep-self, place_in, stops_in_scope, Default, EntryOf, find_entry, tag_of, ErrorCode, Goes, SiteOf, stack, trees, with_stack, error_unless, outer_turn, outer_loop, is_unlisted, adopted, most_turns, Gives, IsSound, AreDifferent, WithFurthestBlock, option_map_or, TreeInBody, current_is, Ended, popped_with, with_furthest_block, with_formatting_element, with_error, topmost_special}
+use Rattle.std.specs.Prelude.{IsTrue}
+use Rattle.hopen.specs.Formatting.{has_bookmark}
+use Rattle.hopen.proofs.Bookmarks.{any-is_entry, has_bookmark-after}
 use Rattle.hadopt.proofs.Lists.{each-map, each-both, pairs-map, Among, skip, keep, among-after, each-among, front-among}
-use Rattle.hadopt.proofs.Climbing.{OnGoes, Climbing}
+use Rattle.hadopt.proofs.Climbing.{OnGoes, goes-then, turn-goes, Climbing}
+use Rattle.hadopt.proofs.Choices.{by_test, or-on}
 use Rattle.hadopt.proofs.Searching.{any-after, at-nearest, scope-open, special-there}
 use Rattle.hadopt.proofs.Settling.{Well, place-fits}
 use Rattle.hadopt.proofs.Turning.{WellAfter, erred, outer-turn-well, open-stands, inner-climbs}
 use Rattle.hadopt.proofs.Keeping.{to-well, from-well, numbers-tell}
-use Rattle.hadopt.proofs.Booked.{Booked, inner-loop-booked, bookmark-there, way-others}
 use Rattle.hadopt.specs.declared.adopting.Turn as code
 use Rattle.hadopt.specs.declared.adopting.Turn.TheVariants as turn
 use Rattle.hadopt.specs.Meets.{turn_of, TurnGives}
 use Rattle.hadopt.specs.AfterInnerLoop.{AfterInnerLoop}
+
+abbrev Has : ℕ → List (Listed ℕ) → Type 0
+Has k items = list_any (is_entry k) items ≡ true
+
+has-without : (k x : ℕ) (items : List (Listed ℕ)) → k ≢ x → Has k items → Has k (without_entry x items)
+has-without k x [] apart h = h
+has-without k x (marker ∷ items) apart h = has-without k x items apart h
+has-without k x (entry e ∷ items) apart h = by_test (eqb e.node x) (λ v. Has k (cond (not v) (entry e ∷ without_entry x items) (without_entry x items)))
+    (λ is. has-without k x items apart (rw (ne_eqb e.node k (λ same. apart (sym same ∙ eqb-true e.node x is))) at h))
+    (λ _. or-on (eqb e.node k) (has-without k x items apart) h)
+
+has-with : (k x new : ℕ) (items : List (Listed ℕ)) → k ≢ x → Has k items → Has k (with_node x new items)
+has-with k x new [] apart h = h
+has-with k x new (marker ∷ items) apart h = has-with k x new items apart h
+has-with k x new (entry e ∷ items) apart h = by_test (eqb e.node x) (λ v. Has k (cond v (for_node new (entry e) ∷ items) (entry e ∷ with_node x new items)))
+    (λ is. let rest = rw (ne_eqb e.node k (λ same. apart (sym same ∙ eqb-true e.node x is))) at h in rw (rest) (or-true (eqb new k)))
+    (λ _. or-on (eqb e.node k) (has-with k x new items apart) h)
+
+has-new : (x new : ℕ) (items : List (Listed ℕ)) → Has x items → Has new (with_node x new items)
+has-new x new [] h = cc
+has-new x new (marker ∷ items) h = has-new x new items h
+has-new x new (entry e ∷ items) h = by_test (eqb e.node x) (λ v. (v || list_any (is_entry x) items) ≡ true → Has new (cond v (for_node new (entry e) ∷ items) (entry e ∷ with_node x new items)))
+    (λ _ _. rw (eq-eqb new new refl) refl) (λ _ k. or-on (eqb e.node new) (λ _. has-new x new items k) (or-true (eqb e.node new))) h
+
+-- a bookmark is in place, or after an entry that no node on the way has, nor F
+abbrev pub IsMarked : ℕ → Bookmark → List (OpenNode ℕ) → List (Listed ℕ) → Type 0
+IsMarked f InPlace way items = Unit {0}
+IsMarked f (After k) way items = Has k items × (f ≢ k) × Each (λ x. k ≢ x.node) way
+
+pub record Booked (f : ℕ) (way : List (OpenNode ℕ)) (c : InnerLoop ℕ) : Type 0 where
+  pub low : f < c.site.nodes.made
+  pub has : Has f c.site.items
+  pub others : Each (λ x. (f ≢ x.node) × (x.node < c.site.nodes.made)) way
+  pub marked : IsMarked f c.bookmark way c.site.items
+
+has-for : (k passed x : ℕ) (items : List (Listed ℕ)) → k ≢ x → Has k items → Has k (entries_for passed x items)
+has-for k passed x items apart h = cond_both (leb 3 passed) _ _ (Has k) (λ _. has-without k x items apart h) (λ _. h)
+
+marked-for : (f passed : ℕ) (b : Bookmark) (x : OpenNode ℕ) (way : List (OpenNode ℕ)) (items : List (Listed ℕ)) → IsMarked f b (x ∷ way) items → IsMarked f b way (entries_for passed x.node items)
+marked-for f passed InPlace x way items m = tt
+marked-for f passed (After k) x way items m = (has-for k passed x.node items m.2.0 m.0, m.1, m.2.1)
+
+-- of the new entry, too
+marked-with : (f passed new : ℕ) (b : Bookmark) (x : OpenNode ℕ) (way : List (OpenNode ℕ)) (items : List (Listed ℕ)) → IsMarked f b (x ∷ way) items → IsMarked f b way (with_node x.node new (entries_for passed x.node items))
+marked-with f passed new InPlace x way items m = tt
+marked-with f passed new (After k) x way items m = (has-with k x.node new (entries_for passed x.node items) m.2.0 (has-for k passed x.node items m.2.0 m.0), m.1, m.2.1)
+
+one-booked : (at f block passed : ℕ) (x : OpenNode ℕ) (way : List (OpenNode ℕ)) (c : InnerLoop ℕ) → Booked f (x ∷ way) c → OnGoes (Booked f way) (inner_turn numbers at block passed x c)
+one-booked at f block passed x way c h = turn-goes numbers (Booked f way) at block passed x c
+    (record { low = h.low; has = has-for f passed x.node c.site.items h.others.0.0 h.has; others = h.others.1; marked = marked-for f passed c.bookmark x way c.site.items h.marked })
+    (λ e is. record {
+      low = omega (arith, h.low);
+      has = has-with f x.node c.site.nodes.made (entries_for passed x.node c.site.items) h.others.0.0 (has-for f passed x.node c.site.items h.others.0.0 h.has);
+      others = each-map _ _ (λ y p. (p.0, omega (arith, p.1))) way h.others.1;
+      marked = cond_both (eqb c.last_node block) (After c.site.nodes.made) c.bookmark (λ b. IsMarked f b way (with_node x.node c.site.nodes.made (entries_for passed x.node c.site.items)))
+          (λ _. (has-new x.node c.site.nodes.made (entries_for passed x.node c.site.items) (any-is_entry x.node (entries_for passed x.node c.site.items) ∙ ap is_some is), (λ e. omega (arith, h.low, e)), each-map _ _ (λ y p. λ e. omega (arith, p.1, e)) way h.others.1))
+          (λ _. marked-with f passed c.site.nodes.made c.bookmark x way c.site.items h.marked);
+    })
+
+pub inner-loop-booked : (at f block passed : ℕ) (way : List (OpenNode ℕ)) (c : InnerLoop ℕ) → Booked f way c → OnGoes (Booked f []) (inner_loop numbers at block passed way c)
+inner-loop-booked at f block passed [] c h = h
+inner-loop-booked at f block passed (x ∷ way) c h =
+    goes-then (Booked f way) (Booked f []) (inner_turn numbers at block passed x c) (inner_loop numbers at block (suc passed) way) (one-booked at f block passed x way c h) (λ d k. inner-loop-booked at f block (suc passed) way d k)
+
+-- what the move to the bookmark asks
+pub bookmark-there : (f : ℕ) (b : Bookmark) (items : List (Listed ℕ)) → IsMarked f b [] items → IsTrue (has_bookmark f b items)
+bookmark-there f InPlace items m = refl
+bookmark-there f (After k) items m = has_bookmark-after f k items (rw (ne_eqb f k m.1) refl) m.0
+
+-- none on the way is F
+pub way-others : (f : ℕ) (xs : List (OpenNode ℕ)) → Each (λ x. f ≢ x.node) (before (is_node f) xs)
+way-others f [] = tt
+way-others f (x ∷ xs) = cond_both (eqb x.node f) [] _ (Each (λ x. f ≢ x.node)) (λ _. tt) (λ e. ((λ same. let clash = sym e ∙ eq-eqb x.node f (sym same) in cc), way-others f xs))
+
+-- What a turn of the outer loop keeps.
 
 before-each : {X : Type 0} (P : X → Type 0) (p : X → Bool) (xs : List X) → Each P xs → Each P (before p xs)
 before-each P p [] e = tt

@@ -8,12 +8,7 @@ pub mod Turning
 pub mod Inserting
 pub mod Keeping
 pub mod Putting
-pub mod Calls
-pub mod Made
-pub mod Booked
 pub mod Keeps
-pub mod Goings
 pub mod Ways
-pub mod Bound
 pub mod Spellings
 pub mod Agreeing

@@ -7,7 +7,7 @@ pub use Rattle.hadopt.specs.InnerLoops.{AreDifferent}
 pub use Rattle.hadopt.specs.Inserts.{made, inserted, with_open, put, added, put_each, with_missing, listed}
 pub use Rattle.hadopt.specs.Soundness.{Each, IsSound, Pairs, PlaceStands, TellsTables}
 pub use Rattle.hadopt.specs.Made.{AreMade}
-pub use Rattle.hadopt.specs.Meets.{inner_loop_of}
+pub use Rattle.hadopt.specs.Meets.{inner_loop_of, TurnGives}
 pub use Rattle.hadopt.specs.Naming.{numbers, Naming, texts}
 pub use Rattle.hadopt.specs.Passings.{passes}
 pub use Rattle.hadopt.specs.Places.{place_in, is_fostering, foster_place, place, beside}
@@ -30,7 +30,7 @@ pub use Rattle.hnodes.specs.declared.node.Place.{Place}
 pub use Rattle.hnodes.specs.declared.node.Place.TheVariants.{LastIn, Before}
 pub use Rattle.hopen.specs.Opens.{open_of}
 pub use Rattle.hopen.specs.Scopes.{is_named, stops_in_scope}
-pub use Rattle.hopen.specs.Stack.{is_node, OpenNode, current, above, is_open, in_scope, furthest_block, OpenNodes, below}
+pub use Rattle.hopen.specs.Stack.{is_node, OpenNode, current, above, is_open, in_scope, furthest_block, OpenNodes, below, topmost_special}
 pub use Rattle.hopen.specs.declared.scope.Scope.TheVariants.{Default}
 pub use Rattle.names.proofs.Words.{some_same}
 pub use Rattle.names.specs.Placed.{placed}
@@ -45,7 +45,7 @@ pub use Rattle.names.specs.declared.tag.Tag.{Tag}
 pub use Rattle.names.specs.declared.tag.Tag.TheVariants.{Table}
 pub use Rattle.std.proofs.Common.{◌≡◌, ℕ, sym, ◌∙◌, ap, arith, [], refl, false, List, rules, true, Some, length, Bool, ◌∷◌, subst, ◌+◌, cond, None, suc, ◌<◌, Option, zero, drop, ◌≤◌, leb, reverse, inl, find, inr, Ok, not, ◌≢◌, ◌⊎◌, ◌++◌, map, slice_get, ◌-◌, Err, nat_eq, eqb, ◌||◌, is_some, is_none, take, if◌then◌else◌, ◌*◌}
 pub use Rattle.std.proofs.Math.Bool.{or-true}
-pub use Rattle.std.proofs.lemmas.Bool.{cond_both, ne_eqb, eq-eqb, eqb-true, le-leb, lt-leb}
+pub use Rattle.std.proofs.lemmas.Bool.{cond_both, ne_eqb, eq-eqb, eqb-true, le-leb, lt-leb, cases_lt}
 pub use Rattle.std.proofs.lemmas.Grind.{reverse_onto}
 pub use Rattle.std.proofs.lemmas.List.{reverse-append, length-drop}
 pub use Rattle.std.specs.Char.{encode_utf8}

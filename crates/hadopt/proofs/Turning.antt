@@ -1,6 +1,5 @@
 -- The adoption agency keeps what the open nodes need: a turn of its outer loop, and all turns.
-use Rattle.hadopt.proofs.Names.{◌≡◌, ◌≢◌, ℕ, zero, suc, ◌<◌, Bool, true, false, not, cond, List, [], ◌∷◌, cond_both, Outcome, refl, sym, ◌∙◌, ap, subst, arith, inl, find, drop, eqb-true, ◌&&◌, list_any, option_map_or, What, element, Forest, graft, make, before, without, item_put_before, OpenNode, is_node, is_open, current, above, below, in_scope, furthest_block, is_named, stops_in_scope, Default, Bookmark, InPlace, After, EntryOf, Listed, marker, entry, is_entry, find_entry, without_entry, for_node, Table, ErrorCode, TreeInBody, is_special, has_implied_end, deep-there, deep, Naming, Goes, SiteOf, stack, trees, with_trees, with_items, with_stack, with_error, error_unless, current_is, place_in, popped_past, popped_to, without_implied, closed, other_end, Turn, Next, Ended, next_turn, InnerLoop, formatting_replaced, popped_with, inner_loop, after_inner_loop, with_furthest_block, with_formatting_element, outer_turn, outer_loop, is_unlisted, adopted, Each, Pairs, TellsTables}
-use Rattle.std.specs.Prelude.{◌||◌}
+use Rattle.hadopt.proofs.Names.{◌≡◌, ◌≢◌, ℕ, zero, suc, ◌<◌, Bool, true, false, not, cond, List, [], ◌∷◌, cond_both, Outcome, refl, sym, ◌∙◌, ap, subst, arith, inl, find, drop, eqb-true, ◌&&◌, list_any, option_map_or, What, element, Forest, graft, make, before, without, item_put_before, OpenNode, is_node, is_open, current, above, below, in_scope, furthest_block, is_named, stops_in_scope, Default, Bookmark, InPlace, After, EntryOf, Listed, marker, entry, is_entry, find_entry, without_entry, for_node, Table, ErrorCode, TreeInBody, is_special, has_implied_end, deep-there, deep, Naming, Goes, SiteOf, stack, trees, with_trees, with_items, with_stack, with_error, error_unless, current_is, place_in, popped_past, popped_to, without_implied, closed, other_end, Turn, Next, Ended, next_turn, InnerLoop, formatting_replaced, popped_with, inner_loop, after_inner_loop, with_furthest_block, with_formatting_element, outer_turn, outer_loop, is_unlisted, adopted, Each, Pairs, TellsTables, ◌||◌}
 use Rattle.std.proofs.lemmas.Bool.{not-false}
 use Rattle.hadopt.proofs.Choices.{by_test, or-both}
 use Rattle.hopen.specs.Formatting.{booked}

@@ -59,13 +59,7 @@ impl Site {
         // Step 4.13.8
         self.graft(inner.last_node, Place::LastIn(new));
         // Step 4.13.6
-        self.replace(
-            node,
-            Open {
-                node: new,
-                name: entry.name,
-            },
-        )?;
+        self.replace(node, new, entry.name)?;
         self.list.replace(node, new);
         // Step 4.13.7
         let bookmark = if inner.last_node == furthest_block {
@@ -172,14 +166,8 @@ impl Site {
         self.move_children(furthest_block, new);
         self.graft(new, Place::LastIn(furthest_block));
         // Step 4.19
-        self.exchange(
-            formatting_element.node,
-            furthest_block,
-            Open {
-                node: new,
-                name: formatting_element.name,
-            },
-        )?;
+        let leaving = formatting_element.node;
+        self.exchange(leaving, furthest_block, new, formatting_element.name)?;
         // Step 4.18
         self.move_to_bookmark(formatting_element.node, new, inner.bookmark);
         Ok(())
@@ -336,13 +324,18 @@ impl Site {
     }
 
     /// Puts another node in the place of an open one.
-    pub(crate) fn replace(&mut self, node: NodeId, by: Open) -> Result<(), AllocError>
-        requires begun { 0 < by.node }
-        requires by_in { by.node < self.old.nodes.made }
-        ensures done { OnOk result (self.new ≡ with_stack (changed (is_node node) (λ _. open_of by) (stack self.old)) self.old) }
+    pub(crate) fn replace(
+        &mut self,
+        replaced: NodeId,
+        node: NodeId,
+        name: NameId,
+    ) -> Result<(), AllocError>
+        requires begun { 0 < node }
+        requires node_in { node < self.old.nodes.made }
+        ensures done { OnOk result (self.new ≡ with_stack (changed (is_node replaced) (λ _. record { node = node; name = name }) (stack self.old)) self.old) }
         ensures nodes { self.new.nodes ≡ self.old.nodes }
     {
-        self.stack.replace(node, by)
+        self.stack.replace(replaced, Open { node, name })
     }
 
     /// Removes an open node and inserts a new one right below another, which is never too deep.
@@ -350,15 +343,16 @@ impl Site {
         &mut self,
         leaving: NodeId,
         above: NodeId,
-        new: Open,
+        node: NodeId,
+        name: NameId,
     ) -> Result<(), AllocError>
-        requires begun { 0 < new.node }
-        requires new_in { new.node < self.old.nodes.made }
+        requires begun { 0 < node }
+        requires node_in { node < self.old.nodes.made }
         requires leaving { is_open leaving (stack self.old) ≡ true }
         ensures done { OnOk result (self.new
-            ≡ with_stack (item_put_before (is_node above) (open_of new) (without (is_node leaving) (stack self.old))) self.old) }
+            ≡ with_stack (item_put_before (is_node above) (record { node = node; name = name }) (without (is_node leaving) (stack self.old))) self.old) }
         ensures nodes { self.new.nodes ≡ self.old.nodes }
     {
-        self.stack.exchange(leaving, above, new)
+        self.stack.exchange(leaving, above, Open { node, name })
     }
 }

@@ -1,5 +1,5 @@
 use Rattle.hadopt.proofs.Names.{texts}
-use Rattle.hadopt.proofs.Bound.{adopted-makes}
+use Rattle.hadopt.proofs.Ways.{adopted-makes}
 use Rattle.hadopt.proofs.laws.adoption_makes_few_elements.Goals as goal
 
 pub returns : goal.returns

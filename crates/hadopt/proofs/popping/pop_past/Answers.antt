@@ -1,5 +1,5 @@
 use Rattle.hadopt.proofs.Names.{◌∙◌, ap, sym, option_map, open_of, passes}
-use Rattle.hadopt.proofs.Made.{past-step}
+use Rattle.hadopt.proofs.Putting.{past-step}
 use Rattle.hadopt.proofs.popping.pop_past.Goals as goal
 
 pub loop-top-preserved : goal.loop-top-preserved

@@ -1,6 +1,6 @@
 use Rattle.hadopt.proofs.Names.{arith, map, Ok, Result, attribute_of, Refusal, numbers}
 use Rattle.std.proofs.lemmas.Grind.{common_steps}
-use Rattle.hadopt.proofs.Calls.{gives-kept, missing-kept}
+use Rattle.hadopt.proofs.Inserting.{gives-kept, missing-kept}
 use Rattle.hadopt.proofs.site.Site.add_missing.Goals as goal
 
 pub returns-clause-done : goal.returns-clause-done

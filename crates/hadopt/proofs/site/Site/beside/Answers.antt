@@ -1,6 +1,6 @@
 use Rattle.hadopt.proofs.Names.{is_node, above}
 use Rattle.hadopt.proofs.Lists.{each-among, among-after}
-use Rattle.hadopt.proofs.Made.{each-current, within}
+use Rattle.hadopt.proofs.Putting.{each-current, within}
 use Rattle.hadopt.proofs.site.Site.beside.Goals as goal
 
 pub last_in-requires : goal.last_in-requires

@@ -1,5 +1,5 @@
 use Rattle.hadopt.proofs.Names.{rules, numbers}
-use Rattle.hadopt.proofs.Calls.{cleared-kept}
+use Rattle.hadopt.proofs.Inserting.{cleared-kept}
 use Rattle.hadopt.proofs.site.Site.clear_to_marker.Goals as goal
 
 pub returns-clause-site : goal.returns-clause-site

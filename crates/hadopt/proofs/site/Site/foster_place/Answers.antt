@@ -1,5 +1,5 @@
 use Rattle.hadopt.proofs.Names.{ap, sym, nat_eq, reverse, Some, ◌∙◌, option_map, open_of, is_named}
-use Rattle.hadopt.proofs.Made.{each-found, each-got, each-reverse, within}
+use Rattle.hadopt.proofs.Putting.{each-found, each-got, each-reverse, within}
 use Rattle.hadopt.proofs.site.Site.foster_place.Goals as goal
 
 pub beside-requires : goal.beside-requires

@@ -1,5 +1,5 @@
 use Rattle.hadopt.proofs.Names.{reverse}
-use Rattle.hadopt.proofs.Made.{each-got, each-reverse}
+use Rattle.hadopt.proofs.Putting.{each-got, each-reverse}
 use Rattle.hadopt.proofs.site.Site.from_top.Goals as goal
 
 pub returns-clause-made : goal.returns-clause-made

@@ -1,6 +1,5 @@
-use Rattle.hadopt.proofs.Names.{rules, numbers, Result, Refusal}
-use Rattle.std.specs.Prelude.{ℕ, Ok}
-use Rattle.hadopt.proofs.Calls.{gives-kept, added-kept}
+use Rattle.hadopt.proofs.Names.{rules, numbers, Result, Refusal, ℕ, Ok}
+use Rattle.hadopt.proofs.Inserting.{gives-kept, added-kept}
 use Rattle.hadopt.proofs.site.Site.insert_comment.Goals as goal
 
 pub returns-clause-done : goal.returns-clause-done

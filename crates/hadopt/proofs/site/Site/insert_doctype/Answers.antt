@@ -1,6 +1,5 @@
-use Rattle.hadopt.proofs.Names.{rules, numbers, Result, Refusal, LastIn}
-use Rattle.std.specs.Prelude.{ℕ, Ok}
-use Rattle.hadopt.proofs.Calls.{root-stands, gives-kept, added-kept}
+use Rattle.hadopt.proofs.Names.{rules, numbers, Result, Refusal, LastIn, ℕ, Ok}
+use Rattle.hadopt.proofs.Inserting.{root-stands, gives-kept, added-kept}
 use Rattle.hadopt.proofs.site.Site.insert_doctype.Goals as goal
 
 pub returns-clause-done : goal.returns-clause-done

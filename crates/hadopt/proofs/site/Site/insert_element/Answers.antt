@@ -1,5 +1,5 @@
 use Rattle.hadopt.proofs.Names.{numbers}
-use Rattle.hadopt.proofs.Calls.{gives-kept, inserted-kept}
+use Rattle.hadopt.proofs.Inserting.{gives-kept, inserted-kept}
 use Rattle.hadopt.proofs.site.Site.insert_element.Goals as goal
 
 pub returns-clause-kept : goal.returns-clause-kept

@@ -1,6 +1,6 @@
 use Rattle.hadopt.proofs.Names.{ℕ, nat_eq, ◌∙◌, ap, Ok, Result, Refusal, numbers, SiteOf, with_items}
 use Rattle.hopen.specs.Formatting.{pushed}
-use Rattle.hadopt.proofs.Calls.{gives-kept, formatting-kept, listed-after}
+use Rattle.hadopt.proofs.Inserting.{gives-kept, formatting-kept, listed-after}
 use Rattle.std.proofs.lemmas.Result.{IfOk-from_err}
 use Rattle.hadopt.proofs.site.Site.insert_formatting.Goals as goal
 

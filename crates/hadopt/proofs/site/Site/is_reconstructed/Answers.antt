@@ -1,5 +1,5 @@
 use Rattle.hadopt.proofs.Names.{◌∙◌}
-use Rattle.hadopt.proofs.Goings.{stopped-at-once}
+use Rattle.hadopt.proofs.Inserting.{stopped-at-once}
 use Rattle.hadopt.proofs.site.Site.is_reconstructed.Goals as goal
 
 pub returns : goal.returns

@@ -1,5 +1,5 @@
 use Rattle.hadopt.proofs.Names.{rules, numbers, stack, is_node}
-use Rattle.hadopt.proofs.Calls.{fewer-kept}
+use Rattle.hadopt.proofs.Inserting.{fewer-kept}
 use Rattle.hadopt.proofs.Lists.{each-among, among-without}
 use Rattle.hadopt.proofs.site.Site.leave.Goals as goal
 

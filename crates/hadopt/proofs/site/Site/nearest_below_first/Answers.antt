@@ -1,5 +1,5 @@
 use Rattle.hadopt.proofs.Names.{◌-◌, length, take}
-use Rattle.hadopt.proofs.Made.{each-found, each-take}
+use Rattle.hadopt.proofs.Putting.{each-found, each-take}
 use Rattle.hadopt.proofs.site.Site.nearest_below_first.Goals as goal
 
 pub returns-clause-made : goal.returns-clause-made

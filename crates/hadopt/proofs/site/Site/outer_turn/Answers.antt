@@ -1,6 +1,5 @@
-use Rattle.hadopt.proofs.Names.{◌≡◌, ◌∙◌, ap, sym, subst, ℕ, nat_eq, Some, option_map, open_of, EntryOf, find_entry, entry_is, numbers, SiteOf, with_furthest_block, WithFurthestBlock}
+use Rattle.hadopt.proofs.Names.{◌≡◌, ◌∙◌, ap, sym, subst, ℕ, nat_eq, Some, option_map, open_of, EntryOf, find_entry, entry_is, numbers, SiteOf, with_furthest_block, WithFurthestBlock, TurnGives}
 use Rattle.hadopt.proofs.Keeps.{found-entry, blocked-stands, blocked-turn, turn-keeps}
-use Rattle.hadopt.specs.Meets.{TurnGives}
 use Rattle.hadopt.proofs.site.Site.outer_turn.Goals as goal
 
 pub returns-then-not-node_in_scope-clause-done : goal.returns-then-not-node_in_scope-clause-done

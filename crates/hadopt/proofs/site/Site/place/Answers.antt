@@ -1,5 +1,5 @@
 use Rattle.hadopt.proofs.Names.{rules, numbers}
-use Rattle.hadopt.proofs.Calls.{place-stands}
+use Rattle.hadopt.proofs.Inserting.{place-stands}
 use Rattle.hadopt.proofs.site.Site.place.Goals as goal
 
 pub returns-clause-place : goal.returns-clause-place

@@ -1,5 +1,5 @@
 use Rattle.hadopt.proofs.Names.{rules, numbers}
-use Rattle.hadopt.proofs.Calls.{here-stands}
+use Rattle.hadopt.proofs.Inserting.{here-stands}
 use Rattle.hadopt.proofs.site.Site.place_in_current.Goals as goal
 
 pub returns-clause-place : goal.returns-clause-place

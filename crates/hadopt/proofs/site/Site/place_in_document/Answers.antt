@@ -1,5 +1,5 @@
 use Rattle.hadopt.proofs.Names.{numbers}
-use Rattle.hadopt.proofs.Calls.{root-stands}
+use Rattle.hadopt.proofs.Inserting.{root-stands}
 use Rattle.hadopt.proofs.site.Site.place_in_document.Goals as goal
 
 pub returns-clause-stands : goal.returns-clause-stands

@@ -1,6 +1,6 @@
 use Rattle.hadopt.proofs.Names.{reverse, rules, numbers}
-use Rattle.hadopt.proofs.Made.{each-got, each-reverse, within}
-use Rattle.hadopt.proofs.Calls.{first-stands}
+use Rattle.hadopt.proofs.Putting.{each-got, each-reverse, within}
+use Rattle.hadopt.proofs.Inserting.{first-stands}
 use Rattle.hadopt.proofs.site.Site.place_in_first.Goals as goal
 
 pub returns-clause-place : goal.returns-clause-place

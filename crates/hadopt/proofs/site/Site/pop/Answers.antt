@@ -1,6 +1,6 @@
 use Rattle.hadopt.proofs.Lists.{each-among}
 use Rattle.hadopt.proofs.Names.{rules, numbers, stack}
-use Rattle.hadopt.proofs.Calls.{fewer-kept}
+use Rattle.hadopt.proofs.Inserting.{fewer-kept}
 use Rattle.hadopt.proofs.Turning.{among-drop}
 use Rattle.hadopt.proofs.site.Site.pop.Goals as goal
 

@@ -1,5 +1,5 @@
 use Rattle.hadopt.proofs.Names.{rules, numbers, stack, nat_eq, is_named}
-use Rattle.hadopt.proofs.Calls.{fewer-kept}
+use Rattle.hadopt.proofs.Inserting.{fewer-kept}
 use Rattle.hadopt.proofs.Lists.{each-among, among-after}
 use Rattle.hadopt.proofs.site.Site.pop_to.Goals as goal
 

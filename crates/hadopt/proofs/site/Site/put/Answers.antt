@@ -1,5 +1,5 @@
 use Rattle.hadopt.proofs.Names.{rules, numbers}
-use Rattle.hadopt.proofs.Calls.{gives-kept, put-kept}
+use Rattle.hadopt.proofs.Inserting.{gives-kept, put-kept}
 use Rattle.hadopt.proofs.site.Site.put.Goals as goal
 
 pub returns-clause-done : goal.returns-clause-done

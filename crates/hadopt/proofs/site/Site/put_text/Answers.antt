@@ -1,5 +1,5 @@
 use Rattle.hadopt.proofs.Names.{ℕ, subst, sym, chars, IsPlace, placed, Gives, put_each, numbers, SiteOf}
-use Rattle.hadopt.proofs.Calls.{gives-kept, each-kept}
+use Rattle.hadopt.proofs.Inserting.{gives-kept, each-kept}
 use Rattle.hadopt.proofs.Putting.{text-gives, made-after_text}
 use Rattle.hadopt.proofs.site.Site.put_text.Goals as goal
 

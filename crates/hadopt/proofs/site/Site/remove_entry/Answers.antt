@@ -1,5 +1,5 @@
 use Rattle.hadopt.proofs.Names.{rules, numbers}
-use Rattle.hadopt.proofs.Calls.{removed-kept}
+use Rattle.hadopt.proofs.Inserting.{removed-kept}
 use Rattle.hadopt.proofs.site.Site.remove_entry.Goals as goal
 
 pub returns-clause-site : goal.returns-clause-site

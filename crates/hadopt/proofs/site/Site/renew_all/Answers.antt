@@ -1,6 +1,5 @@
 use Rattle.hadopt.proofs.Names.{◌∙◌, Ok, ap, sym, Result, Refusal, numbers, reconstructed}
-use Rattle.hadopt.proofs.Calls.{gives-kept, reconstructed-kept}
-use Rattle.hadopt.proofs.Goings.{renewed-none}
+use Rattle.hadopt.proofs.Inserting.{gives-kept, reconstructed-kept, renewed-none}
 use Rattle.hadopt.proofs.site.Site.renew_all.Goals as goal
 
 pub returns-clause-kept : goal.returns-clause-kept
