@@ -1,7 +1,6 @@
 use Rattle.hadopt.proofs.Names.{ℕ, nat_eq, ◌∙◌, ap, Ok, Result, Refusal, numbers, SiteOf, with_items}
 use Rattle.hopen.specs.Formatting.{pushed}
 use Rattle.hadopt.proofs.Inserting.{gives-kept, formatting-kept, listed-after}
-use Rattle.std.proofs.lemmas.Result.{IfOk-from_err}
 use Rattle.hadopt.proofs.site.Site.insert_formatting.Goals as goal
 
 pub returns-clause-done : goal.returns-clause-done
@@ -13,15 +12,3 @@ returns-clause-done c =
 
 pub returns-clause-kept : goal.returns-clause-kept
 returns-clause-kept c = λ k stands apart. let r : Result ℕ Refusal = Ok c.in_ok-new.new in gives-kept numbers r _ _ (returns-clause-done c) (formatting-kept numbers c.args.at c.args.name _ c.args.place c.args.self.now stands apart k)
-
-pub returns-in_err-new-clause-number : goal.returns-in_err-new-clause-number
-returns-in_err-new-clause-number c = IfOk-from_err c.from_residual.result _ c.from_residual.ensures.0
-
-pub returns-in_err-new-clause-kept : goal.returns-in_err-new-clause-kept
-returns-in_err-new-clause-kept c = λ _ _ _. IfOk-from_err c.from_residual.result _ c.from_residual.ensures.0
-
-pub returns-in_err-push-clause-number : goal.returns-in_err-push-clause-number
-returns-in_err-push-clause-number c = IfOk-from_err c.from_residual-in_err-push.result _ c.from_residual-in_err-push.ensures.0
-
-pub returns-in_err-push-clause-kept : goal.returns-in_err-push-clause-kept
-returns-in_err-push-clause-kept c = λ _ _ _. IfOk-from_err c.from_residual-in_err-push.result _ c.from_residual-in_err-push.ensures.0
