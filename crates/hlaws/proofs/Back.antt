@@ -6,7 +6,7 @@ use Rattle.hmodes.specs.Step as step
 use Rattle.hserialize.specs.declared.content.Content.TheVariants as content
 use Rattle.hserialize.specs.declared.content.Texts.TheVariants as allowed
 use Rattle.hlaws.proofs.TokenLists.{AreTokens, parted, first, after, ended}
-use Rattle.hlaws.proofs.Content.{parts_mode_is, rows_mode_is, cells_mode_is}
+use Rattle.hlaws.proofs.Content.{own_mode}
 use Rattle.hlaws.proofs.Accepted.{accepts}
 use Rattle.hlaws.proofs.PlainBuilds.{law}
 use Rattle.hlaws.proofs.NamesAsTexts.{named_back}
@@ -128,9 +128,9 @@ module _ (opts : ParseOptions) (escaping : Escaping) (context : List ℕ) (allow
   comes k e h = go k (ap (λ c. mode_ok c mode) (sym e) ∙ context_ok (tag_named context)) h
     where
       go : (k : Content) → mode_ok k mode ≡ true → are_content_if (in_context_of k (is_form_element (tag_named context))) l ≡ true → GivesForest opts context (written escaping (Some context) l) l
-      go content.TableParts m h = from_inside _ m refl (inr refl) refl (ap ends_body (parts_mode_is mode m)) h
-      go content.TableRows m h = from_inside _ m refl (inr refl) refl (ap ends_body (rows_mode_is mode m)) h
-      go content.Cells m h = from_inside _ m refl (inr refl) refl (ap ends_body (cells_mode_is mode m)) h
+      go content.TableParts m h = from_inside _ m refl (inr refl) refl (ap ends_body ((own_mode mode).parts m)) h
+      go content.TableRows m h = from_inside _ m refl (inr refl) refl (ap ends_body ((own_mode mode).rows m)) h
+      go content.Cells m h = from_inside _ m refl (inr refl) refl (ap ends_body ((own_mode mode).cells m)) h
       go content.Columns m h = absurd (false≢true h)
       go content.Empty m h = absurd (false≢true h)
       go _ m h = from_inside _ m refl (inl refl) refl (flow_ends mode m) h

@@ -35,31 +35,26 @@ phrasing_mode content.Flow m h e = e
 phrasing_mode content.Phrasing m h e = e
 phrasing_mode _ m h e = absurd (false≢true h)
 
-pub parts_mode_is : (m : Mode) → fits_mode content.TableParts m ≡ true → m ≡ InTable
-parts_mode_is InTable h = refl
-parts_mode_is _ h = absurd (false≢true h)
+-- each part of a table has a mode of its own
+pub record OwnMode (m : Mode) : Type 0 where
+  pub parts : fits_mode content.TableParts m ≡ true → m ≡ InTable
+  pub rows : fits_mode content.TableRows m ≡ true → m ≡ InTableBody
+  pub cells : fits_mode content.Cells m ≡ true → m ≡ InRow
+  pub columns : fits_mode content.Columns m ≡ true → m ≡ InColumnGroup
 
-pub rows_mode_is : (m : Mode) → fits_mode content.TableRows m ≡ true → m ≡ InTableBody
-rows_mode_is InTableBody h = refl
-rows_mode_is _ h = absurd (false≢true h)
-
-pub cells_mode_is : (m : Mode) → fits_mode content.Cells m ≡ true → m ≡ InRow
-cells_mode_is InRow h = refl
-cells_mode_is _ h = absurd (false≢true h)
-
-pub columns_mode_is : (m : Mode) → fits_mode content.Columns m ≡ true → m ≡ InColumnGroup
-columns_mode_is InColumnGroup h = refl
-columns_mode_is _ h = absurd (false≢true h)
+pub own_mode : (m : Mode) → OwnMode m
+own_mode InTable = record { parts = λ h. refl; rows = λ h. cc; cells = λ h. cc; columns = λ h. cc }
+own_mode _ = record { parts = λ h. cc; rows = λ h. cc; cells = λ h. cc; columns = λ h. cc }
 
 flow_comment : (m : Mode) → is_flow_mode m ≡ true → rule_of m Comment ≡ insert_comment
 flow_comment InBody h = refl
 flow_comment _ h = cc
 
 pub comment_rule : (k : Content) (m : Mode) → fits_mode k m ≡ true → rule_of m Comment ≡ insert_comment
-comment_rule content.TableParts m h = ap (λ o. rule_of o Comment) (parts_mode_is m h)
-comment_rule content.TableRows m h = ap (λ o. rule_of o Comment) (rows_mode_is m h)
-comment_rule content.Cells m h = ap (λ o. rule_of o Comment) (cells_mode_is m h)
-comment_rule content.Columns m h = ap (λ o. rule_of o Comment) (columns_mode_is m h)
+comment_rule content.TableParts m h = ap (λ o. rule_of o Comment) ((own_mode m).parts h)
+comment_rule content.TableRows m h = ap (λ o. rule_of o Comment) ((own_mode m).rows h)
+comment_rule content.Cells m h = ap (λ o. rule_of o Comment) ((own_mode m).cells h)
+comment_rule content.Columns m h = ap (λ o. rule_of o Comment) ((own_mode m).columns h)
 comment_rule _ m h = flow_comment m h
 
 -- NAMES
@@ -69,29 +64,18 @@ around_fits content.Flow t h e = ap not e
 around_fits content.Phrasing t h e = refl
 around_fits _ t h e = absurd (false≢true h)
 
-pub nested_a : (i : Inside) (t : Tag) → is_a t ≡ true → is_nested i t ≡ i.in_a
-nested_a i tag.A h = refl
-nested_a i _ h = absurd (false≢true h)
+-- what a name is nested in, and which scopes it stops
+pub record NameFacts (t : Tag) : Type 0 where
+  pub nested_a : (i : Inside) → is_a t ≡ true → is_nested i t ≡ i.in_a
+  pub nested_button : (i : Inside) → is_button t ≡ true → is_nested i t ≡ i.in_button
+  pub nested_form : (i : Inside) → is_form_element t ≡ true → is_nested i t ≡ i.in_form
+  pub marker_stops : inserts_marker t ≡ true → stops_scope t ≡ true
+  pub list_stops : holds_list_items t ≡ true → stops_item t ≡ true
+  pub dl_stops : is_dl t ≡ true → stops_item t ≡ true
 
-pub nested_button : (i : Inside) (t : Tag) → is_button t ≡ true → is_nested i t ≡ i.in_button
-nested_button i tag.Button h = refl
-nested_button i _ h = absurd (false≢true h)
-
-pub nested_form : (i : Inside) (t : Tag) → is_form_element t ≡ true → is_nested i t ≡ i.in_form
-nested_form i tag.Form h = refl
-nested_form i _ h = absurd (false≢true h)
-
-pub marker_stops : (t : Tag) → inserts_marker t ≡ true → stops_scope t ≡ true
-marker_stops tag.Caption h = refl
-marker_stops _ h = cc
-
-pub list_stops : (t : Tag) → holds_list_items t ≡ true → stops_item t ≡ true
-list_stops tag.Ul h = refl
-list_stops _ h = cc
-
-pub dl_stops : (t : Tag) → is_dl t ≡ true → stops_item t ≡ true
-dl_stops tag.Dl h = refl
-dl_stops _ h = absurd (false≢true h)
+pub name_facts : (t : Tag) → NameFacts t
+name_facts tag.A = record { nested_a = λ i h. refl; nested_button = λ i h. cc; nested_form = λ i h. cc; marker_stops = λ h. cc; list_stops = λ h. cc; dl_stops = λ h. cc }
+name_facts _ = record { nested_a = λ i h. cc; nested_button = λ i h. cc; nested_form = λ i h. cc; marker_stops = λ h. cc; list_stops = λ h. cc; dl_stops = λ h. cc }
 
 -- LISTS
 

@@ -3,9 +3,11 @@ use Rattle.hlaws.proofs.Names.{◌≡◌, ℕ, false, ◌∙◌, sym, ap, subst,
 use Rattle.hnodes.specs.Forest as forest
 use Rattle.hlaws.proofs.Accepted.{accepts}
 use Rattle.hlaws.proofs.Back.{erased-numbered, placed_token}
+use Rattle.hlaws.proofs.Documents.{law as builds}
+use Rattle.hlaws.proofs.TokensDocument.{tokens_law}
 
 -- the law of the whole from the two others
-pub comes_back : PlainDocumentTokens → PlainDocumentBuilds → PlainDocumentComesBack
+comes_back : PlainDocumentTokens → PlainDocumentBuilds → PlainDocumentComesBack
 comes_back tokens builds opts escaping l is_table core utf8 plain within fits =
     let read = tokens opts.table escaping l is_table core utf8 plain in
     let b = builds opts.quirks opts.limits l (map token_placed read.toks) utf8 plain fits (placed_token read.toks ∙ read.are) in
@@ -54,7 +56,7 @@ same_without how (tree n (forest.doctype name public_id system_id) kids rest) =
     }
 same_without how (tree n w kids rest) = with_node how n w kids rest (without_identifiers rest) (same_without how rest)
 
-pub comes_back_without : PlainDocumentComesBack → ComesBackWithoutIdentifiers
+comes_back_without : PlainDocumentComesBack → ComesBackWithoutIdentifiers
 comes_back_without law opts escaping l is_table core utf8 plain within fits =
     let s = same_without escaping l in
     let n = fits.nodes in
@@ -63,3 +65,9 @@ comes_back_without law opts escaping l is_table core utf8 plain within fits =
     (law opts escaping (without_identifiers l) is_table core (texts_without l utf8)
     plain (subst (λ (bytes : List ℕ). length bytes ≤ opts.input) (sym s.written_is) within)
     (record { nodes = omega (arith, s.size_is, n); open_nodes = omega (arith, s.depth_is, d) }))
+
+pub law : PlainDocumentComesBack
+law = comes_back tokens_law builds
+
+pub law_without : ComesBackWithoutIdentifiers
+law_without = comes_back_without law

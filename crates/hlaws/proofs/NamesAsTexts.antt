@@ -1,5 +1,5 @@
 -- What is used of names, where they are texts.
-use Rattle.hlaws.proofs.Names.{false_from_ne_true, ◌≡◌, ℕ, Bool, true, false, cond, List, [], ◌∷◌, refl, sym, ◌∙◌, ap, false≢true, bytes_eq-Decides, bytes_eq, Tag, tag_text, tags, tag_named, texts, family_of, holds_list_items, is_dl, is_a, is_button, tag_among}
+use Rattle.hlaws.proofs.Names.{false_from_ne_true, ◌≡◌, ℕ, Bool, true, false, cond, List, [], ◌∷◌, refl, sym, ◌∙◌, ap, bytes_eq-Decides, bytes_eq, Tag, tag_text, tags, tag_named, texts, family_of, holds_list_items, is_dl, is_a, is_button, tag_among}
 use Rattle.names.specs.declared.tag.Tag.TheVariants as tag
 use Rattle.names.proofs.KnownTags.{different}
 use Rattle.hmodes.specs.declared.family.Family.TheVariants as family
@@ -27,25 +27,11 @@ knows t test proper is only x = go (bytes_eq x (tag_text t)) refl
 is_named : (t : Tag) → (t ≡ tag.Other → ⊥) → (x : List ℕ) → tag_named x ≡ t → bytes_eq x (tag_text t) ≡ true
 is_named t proper x e = (bytes_eq-Decides x (tag_text t)).1 (named_back tags x t e proper)
 
-only_p : (u : Tag) → is_p u ≡ true → u ≡ tag.P
-only_p tag.P h = refl
-only_p _ h = absurd (false≢true h)
-
-only_button : (u : Tag) → is_button u ≡ true → u ≡ tag.Button
-only_button tag.Button h = refl
-only_button _ h = absurd (false≢true h)
-
-only_table : (u : Tag) → family_of u ≡ family.Table → u ≡ tag.Table
-only_table tag.Table h = refl
-only_table _ h = cc
-
-only_caption : (u : Tag) → family_of u ≡ family.Caption → u ≡ tag.Caption
-only_caption tag.Caption h = refl
-only_caption _ h = cc
-
-only_row : (u : Tag) → family_of u ≡ family.Row → u ≡ tag.Tr
-only_row tag.Tr h = refl
-only_row _ h = cc
+-- the name that alone passes a test, or is of a family
+only : (u : Tag) → (is_p u ≡ true → u ≡ tag.P) × (is_button u ≡ true → u ≡ tag.Button) × (family_of u ≡ family.Table → u ≡ tag.Table) × (family_of u ≡ family.Caption → u ≡ tag.Caption)
+    × (family_of u ≡ family.Row → u ≡ tag.Tr)
+only tag.P = (λ h. refl, λ h. cc, λ h. cc, λ h. cc, λ h. cc)
+only _ = (λ h. cc, λ h. cc, λ h. cc, λ h. cc, λ h. cc)
 
 -- a text of another name
 not_named : (t : Tag) (test : Tag → Bool) (x : List ℕ) → test (tag_named (tag_text t)) ≡ false → test (tag_named x) ≡ true → bytes_eq x (tag_text t) ≡ false
@@ -54,12 +40,12 @@ not_named t test x away h = different x (tag_text t) (λ e. let y = ap (λ z. te
 pub text_laws : NameLaws texts
 text_laws = record {
   same_self = λ x. (bytes_eq-Decides x x).1 refl;
-  knows_p = knows tag.P is_p (λ e. cc) refl only_p;
-  button = knows tag.Button is_button (λ e. cc) refl only_button;
+  knows_p = knows tag.P is_p (λ e. cc) refl (λ u. (only u).0);
+  button = knows tag.Button is_button (λ e. cc) refl (λ u. (only u).1);
   anchor = λ x y a b. different y x (λ e. let z = ap (λ t. is_a (tag_named t)) e in cc);
-  table = λ x e. is_named tag.Table (λ e. cc) x (only_table (tag_named x) e);
-  caption = λ x e. is_named tag.Caption (λ e. cc) x (only_caption (tag_named x) e);
-  table_row = λ x e. is_named tag.Tr (λ e. cc) x (only_row (tag_named x) e);
+  table = λ x e. is_named tag.Table (λ e. cc) x ((only (tag_named x)).2 e);
+  caption = λ x e. is_named tag.Caption (λ e. cc) x ((only (tag_named x)).3 e);
+  table_row = λ x e. is_named tag.Tr (λ e. cc) x ((only (tag_named x)).4 e);
   li = λ x e. not_named tag.Li holds_list_items x refl e;
   dd = λ x e. not_named tag.Dd is_dl x refl e;
   dt = λ x e. not_named tag.Dt is_dl x refl e;

@@ -27,8 +27,8 @@ module _ (table : Entities) (how : Policy) (bytes : List ℕ) where
       let lists = one-list (input_errors (decoded how bytes) ++ errors) sorted sorted' p (subst (λ (es : List ParseError). IsPermutation (input_errors (decoded how bytes) ++ es) sorted') (sym same.1) p') s s' in
       ap (λ (ts : List Tok). Ok (ts, sorted)) same.0 ∙ ap (λ (es : List ParseError). Ok (tokens', es)) lists
 
-pub one-answer : OneAnswer
-one-answer table how bytes is_table = of (some_answer table kind.None (read_text how bytes) (read_len how bytes) is_table)
+pub one_answer : OneAnswer
+one_answer table how bytes is_table = of (some_answer table kind.None (read_text how bytes) (read_len how bytes) is_table)
   where
     only : (x : Result (List Tok × List ParseError) Refusal) → Answers table how bytes x → ExactlyOne (Answers table how bytes)
     only x h = record { one = x; is = h; other = λ y k. one-of-two table how bytes y x k h }

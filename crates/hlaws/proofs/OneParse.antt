@@ -164,5 +164,5 @@ module _ (opts : ParseOptions) (parse_case : ParseCase) (bytes : List ℕ) where
   exactly-one (refuses tokens name at out) = exactly-refused tokens name at out (some-steps (map token_placed tokens) (first_state opts parse_case) (reached-first opts parse_case))
   exactly-one (gives tokens errors read) = exactly-tokens tokens errors read (some-steps (map token_placed tokens) (first_state opts parse_case) (reached-first opts parse_case))
 
-pub one-parse : OneParse
-one-parse opts parse_case bytes is_table = exactly-one opts parse_case bytes (some_answer opts.table (start_kind (start_of parse_case)) (input_text (manner opts parse_case) bytes) (read_len (policy opts parse_case) bytes) is_table)
+pub one_parse : OneParse
+one_parse opts parse_case bytes is_table = exactly-one opts parse_case bytes (some_answer opts.table (start_kind (start_of parse_case)) (input_text (manner opts parse_case) bytes) (read_len (policy opts parse_case) bytes) is_table)

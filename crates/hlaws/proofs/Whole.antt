@@ -10,7 +10,7 @@ use Rattle.hserialize.specs.declared.content.Role.TheVariants as role
 use Rattle.hlaws.proofs.Growing.{graft-new, under-none, under-new, once-grown, free-grown, once-new, rest-grown, times-numbered, text_before-new, text_before-leaf}
 use Rattle.hlaws.proofs.Thinned.{then, thinned-room, open-thinned, open-pushed, lower-thinned, entries-more, no-entry}
 use Rattle.hlaws.proofs.Classes.{Profile, profile, plain_profile, around, class_profile, classed, void_empty, is_p}
-use Rattle.hlaws.proofs.Content.{home, has_home, stands_in, no_nowhere, phrasing_mode, parts_mode_is, rows_mode_is, cells_mode_is, columns_mode_is, comment_rule, around_fits, nested_a, nested_button, nested_form, marker_stops, list_stops, dl_stops}
+use Rattle.hlaws.proofs.Content.{home, has_home, stands_in, no_nowhere, phrasing_mode, own_mode, comment_rule, around_fits, name_facts}
 use Rattle.hlaws.proofs.Rules as rules
 use Rattle.hlaws.proofs.Rules.{IsFlowRule, by_start, by_end, state, node}
 use Rattle.hlaws.proofs.TokenLists.{AreTokens, first, parted, after, ended, IsText, begins_text}
@@ -492,7 +492,7 @@ module _ {N : Type 0} (n : Naming N) (laws : NameLaws n) (z : State N) where
       no_button_in h = go (inserts_marker (n.tag x)) refl h
         where
           go : (m : Bool) → inserts_marker (n.tag x) ≡ m → ((not m && i.in_button) || is_button (n.tag x)) ≡ false → in_scope (stops_in_scope n.tag scope.Default) (is n tag.Button) (node made x ∷ d ∷ up) ≡ false
-          go true e k = rw (laws.button x, (or_parts false (is_button (n.tag x)) k).1, marker_stops (n.tag x) e) refl
+          go true e k = rw (laws.button x, (or_parts false (is_button (n.tag x)) k).1, (name_facts (n.tag x)).marker_stops e) refl
           go false e k = let m = or_parts i.in_button (is_button (n.tag x)) k in rw (laws.button x, m.1, q.no_button m.0) (and_right (not (stops_in_scope n.tag scope.Default (node made x))) false refl)
 
       -- what is asked of the list inside the element
@@ -680,7 +680,7 @@ module _ {N : Type 0} (n : Naming N) (laws : NameLaws n) (z : State N) where
           let flows : is_flow_mode c.mode ≡ true = mode_in n q content.ListItems e in
           let within : holds_list_items (n.tag d.name) ≡ true = current_in n q content.ListItems e in
           let no_p = q.no_p (ap closes_p e) in
-          let no_li : in_scope (λ y. stops_item (n.tag y.name)) (is n tag.Li) (d ∷ up) ≡ false = rw (laws.li d.name within, list_stops (n.tag d.name) within) refl in
+          let no_li : in_scope (λ y. stops_item (n.tag y.name)) (is n tag.Li) (d ∷ up) ≡ false = rw (laws.li d.name within, (name_facts (n.tag d.name)).list_stops within) refl in
           own _ p content.Flow refl flows flows (ap (λ r. not r.is_heading) p) refl refl (λ h. p_below (ap (λ r. r.is_p) p) no_p)
           (flow_start _ p (by_start family.Li) _ flows (refl, refl, refl) (λ at. simp (no_li, no_p, full, high, grown) refl))
           (flow_ends _ p (end_item scope.ListItem) (refl, refl, refl) (λ at m g items2 c2. grind (arith, self)))
@@ -689,8 +689,8 @@ module _ {N : Type 0} (n : Naming N) (laws : NameLaws n) (z : State N) where
           let flows : is_flow_mode c.mode ≡ true = mode_in n q content.Definitions e in
           let within : is_dl (n.tag d.name) ≡ true = current_in n q content.Definitions e in
           let no_p = q.no_p (ap closes_p e) in
-          let no_dd : in_scope (λ y. stops_item (n.tag y.name)) (is n tag.Dd) (d ∷ up) ≡ false = rw (laws.dd d.name within, dl_stops (n.tag d.name) within) refl in
-          let no_dt : in_scope (λ y. stops_item (n.tag y.name)) (is n tag.Dt) (d ∷ up) ≡ false = rw (laws.dt d.name within, dl_stops (n.tag d.name) within) refl in
+          let no_dd : in_scope (λ y. stops_item (n.tag y.name)) (is n tag.Dd) (d ∷ up) ≡ false = rw (laws.dd d.name within, (name_facts (n.tag d.name)).dl_stops within) refl in
+          let no_dt : in_scope (λ y. stops_item (n.tag y.name)) (is n tag.Dt) (d ∷ up) ≡ false = rw (laws.dt d.name within, (name_facts (n.tag d.name)).dl_stops within) refl in
           own _ p content.Flow refl flows flows (ap (λ r. not r.is_heading) p) refl refl (λ h. p_below (ap (λ r. r.is_p) p) no_p)
           (flow_start _ p (by_start family.Dd) _ flows (refl, refl, refl) (λ at. simp (no_dd, no_dt, no_p, full, high, grown) refl))
           (flow_ends _ p (end_item scope.Default) (refl, refl, refl) (λ at m g items2 c2. grind (arith, self)))
@@ -702,7 +702,7 @@ module _ {N : Type 0} (n : Naming N) (laws : NameLaws n) (z : State N) where
       of_class family.Form k p plain =
           let flow = in_flow _ p refl in
           let formed : is_form_element (n.tag x) ≡ true = ap (λ r. r.is_form_element) p in
-          let no_form : c.form ≡ None = q.no_form (sym (nested_form i (n.tag x) formed) ∙ alone) in
+          let no_form : c.form ≡ None = q.no_form (sym ((name_facts (n.tag x)).nested_form i formed) ∙ alone) in
           by_law _ p content.Flow refl items (record (begun_control c) { form = Some made }) q.mode_is flow.0 (ap (λ r. not r.is_heading) p) refl as_before (λ h. p_below (ap (λ r. r.is_p) p) flow.1) (anchors_same (ap (λ r. r.marks) p))
           (λ h. absurd (let y = (or_parts i.in_form (is_form_element (n.tag x)) h).1 in cc)) (flow_start _ p (by_start family.Form) _ flow.0 (refl, refl, refl) (λ at. simp (no_form, flow.1, full, high, grown) refl))
           (λ items2 c2 t k.
@@ -715,7 +715,7 @@ module _ {N : Type 0} (n : Naming N) (laws : NameLaws n) (z : State N) where
           (flow_ends _ p (by_end family.Other) (refl, refl, refl) (λ at m g items2 c2. simp (self, stays _ p) refl))
       of_class family.Button k p plain =
           let flows : is_flow_mode c.mode ≡ true = phrasing_flows _ p refl in
-          let no_button = q.no_button (sym (nested_button i (n.tag x) (ap (λ r. r.is_button) p)) ∙ alone) in
+          let no_button = q.no_button (sym ((name_facts (n.tag x)).nested_button i (ap (λ r. r.is_button) p)) ∙ alone) in
           own _ p i.content refl flows q.mode_fits (around_current family.Button false true p) refl refl (p_around family.Button false true p)
           (flow_start _ p (by_start family.Button) _ flows (refl, refl, refl) (λ at. simp (no_button, none_lost at, full, high, grown) refl))
           (flow_ends _ p close_block (refl, refl, refl) (λ at m g items2 c2. simp (self, stays _ p) refl))
@@ -725,7 +725,7 @@ module _ {N : Type 0} (n : Naming N) (laws : NameLaws n) (z : State N) where
           (flow_start _ p (by_start family.Formatting) _ (phrasing_flows _ p refl) (refl, refl, refl) (λ at. simp (none_lost at, full, high, grown) refl))
       of_class family.A k p plain =
           let named : is_a (n.tag x) ≡ true = ap (λ r. r.is_a) p in
-          let no_a : find_entry n.same x items ≡ None = q.no_a (sym (nested_a i (n.tag x) named) ∙ alone) x named in
+          let no_a : find_entry n.same x items ≡ None = q.no_a (sym ((name_facts (n.tag x)).nested_a i named) ∙ alone) x named in
           formatting family.A true p (refl, refl, refl)
           (λ h y e. absurd (let v = (or_parts (not (inserts_marker (n.tag x)) && i.in_a) (is_a (n.tag x)) h).1 in cc))
           (flow_start _ p (by_start family.A) _ (phrasing_flows _ p refl) (refl, refl, refl) (λ at. simp (no_a, none_lost at, full, high, grown) refl))
@@ -737,14 +737,14 @@ module _ {N : Type 0} (n : Naming N) (laws : NameLaws n) (z : State N) where
           (mode_ends _ p InTable (λ l. l) _ (λ at m g items2 c2. simp known refl))
       of_class family.Colgroup k p plain =
           let e : i.content ≡ content.TableParts = stands _ p refl in
-          let mode_at : c.mode ≡ InTable = parts_mode_is c.mode (mode_in n q content.TableParts e) in
+          let mode_at : c.mode ≡ InTable = (own_mode c.mode).parts (mode_in n q content.TableParts e) in
           let clear : is_table_context (n.tag d.name) ≡ true = (and_parts (is_table_context (n.tag d.name)) _ (current_in n q content.TableParts e)).0 in
           in_parts _ p content.Columns InColumnGroup InTable refl refl refl refl refl (ap (λ r. r.is_colgroup) p) refl (sym mode_at)
           (mode_start _ p InTable _ mode_at (λ at. simp (clear, full, high, grown) refl))
           (mode_ends _ p InColumnGroup (λ l. l) InTable (λ at m g items2 c2. refl))
       of_class family.TableSection k p plain =
           let e : i.content ≡ content.TableParts = stands _ p refl in
-          let mode_at : c.mode ≡ InTable = parts_mode_is c.mode (mode_in n q content.TableParts e) in
+          let mode_at : c.mode ≡ InTable = (own_mode c.mode).parts (mode_in n q content.TableParts e) in
           let clear : is_table_context (n.tag d.name) ≡ true = (and_parts (is_table_context (n.tag d.name)) _ (current_in n q content.TableParts e)).0 in
           let section : is_body_context (n.tag x) ≡ true = ap (λ r. r.body_context) p in
           in_parts _ p content.TableRows InTableBody InTable refl refl refl refl refl (ap (λ r. r.body_context && (r.fosters || false)) p) refl (sym mode_at)
@@ -752,7 +752,7 @@ module _ {N : Type 0} (n : Naming N) (laws : NameLaws n) (z : State N) where
           (mode_ends _ p InTableBody (λ l. l) InTable (λ at m g items2 c2. simp (self, section) refl))
       of_class family.Row k p plain =
           let e : i.content ≡ content.TableRows = stands _ p refl in
-          let mode_at : c.mode ≡ InTableBody = rows_mode_is c.mode (mode_in n q content.TableRows e) in
+          let mode_at : c.mode ≡ InTableBody = (own_mode c.mode).rows (mode_in n q content.TableRows e) in
           let clear : is_body_context (n.tag d.name) ≡ true = (and_parts (is_body_context (n.tag d.name)) _ (current_in n q content.TableRows e)).0 in
           let known : n.same x (n.known tag.Tr) ≡ true = laws.table_row x (ap (λ r. r.family) p) in
           let row_is : is_row_context (n.tag x) ≡ true = ap (λ r. r.row_context) p in
@@ -761,7 +761,7 @@ module _ {N : Type 0} (n : Naming N) (laws : NameLaws n) (z : State N) where
           (mode_ends _ p InRow (λ l. l) InTableBody (λ at m g items2 c2. simp (known, row_is) refl))
       of_class family.Caption k p plain =
           let e : i.content ≡ content.TableParts = stands _ p refl in
-          let mode_at : c.mode ≡ InTable = parts_mode_is c.mode (mode_in n q content.TableParts e) in
+          let mode_at : c.mode ≡ InTable = (own_mode c.mode).parts (mode_in n q content.TableParts e) in
           let clear : is_table_context (n.tag d.name) ≡ true = (and_parts (is_table_context (n.tag d.name)) _ (current_in n q content.TableParts e)).0 in
           let known : n.same x (n.known tag.Caption) ≡ true = laws.caption x (ap (λ r. r.family) p) in
           marking _ p InCaption InTable refl refl refl refl refl refl refl (sym mode_at)
@@ -769,7 +769,7 @@ module _ {N : Type 0} (n : Naming N) (laws : NameLaws n) (z : State N) where
           (mode_ends _ p InCaption cleared InTable (λ at m g items2 c2. simp (known, stays _ p) refl))
       of_class family.Cell k p plain =
           let e : i.content ≡ content.Cells = stands _ p refl in
-          let mode_at : c.mode ≡ InRow = cells_mode_is c.mode (mode_in n q content.Cells e) in
+          let mode_at : c.mode ≡ InRow = (own_mode c.mode).cells (mode_in n q content.Cells e) in
           let clear : is_row_context (n.tag d.name) ≡ true = (and_parts (is_row_context (n.tag d.name)) _ (current_in n q content.Cells e)).0 in
           marking _ p InCell InRow refl refl refl refl refl refl refl (sym mode_at)
           (mode_start _ p InRow _ mode_at (λ at. simp (clear, full, high, grown) refl))
@@ -812,7 +812,7 @@ module _ {N : Type 0} (n : Naming N) (laws : NameLaws n) (z : State N) where
       of_void family.PhrasingVoid k p void_is = in_phrasing _ p void_in_text (refl, refl, refl) refl in_text
       of_void family.MediaVoid k p void_is = in_phrasing _ p void (refl, refl, refl) refl plain_void
       of_void family.HeadVoid k p void_is = in_phrasing _ p void (refl, refl, refl) refl plain_void
-      of_void family.Col k p void_is = void_built (mode_start _ p InColumnGroup _ (columns_mode_is c.mode (mode_in n q _ (stands _ p refl))) (λ at. simp (full, high, grown) refl))
+      of_void family.Col k p void_is = void_built (mode_start _ p InColumnGroup _ ((own_mode c.mode).columns (mode_in n q _ (stands _ p refl))) (λ at. simp (full, high, grown) refl))
       of_void family.Hr k p void_is =
           let flow = in_flow _ p refl in
           void_built (flow_start _ p (by_start family.Hr) _ flow.0 (refl, refl, refl) (λ at. simp (flow.1, full, high, grown) refl))
@@ -880,10 +880,10 @@ module _ {N : Type 0} (n : Naming N) (laws : NameLaws n) (z : State N) where
       text_now k e = subst (λ (u : Content). TextIn u (takes_space i.texts) (good.is.one ∷ good.is.more)) e good.fits
 
       go : (k : Content) → i.content ≡ k → Node
-      go content.TableParts e = let z = text_now content.TableParts e in in_parts (ap rules.is_parts_mode (parts_mode_is c.mode (mode_in n q content.TableParts e))) (fosters_at _ _ (and_parts (is_table_context (n.tag d.name)) _ (current_in n q content.TableParts e)).1 z.1) z.0
-      go content.TableRows e = let z = text_now content.TableRows e in in_parts (ap rules.is_parts_mode (rows_mode_is c.mode (mode_in n q content.TableRows e))) (fosters_at _ _ (and_parts (is_body_context (n.tag d.name)) _ (current_in n q content.TableRows e)).1 z.1) z.0
-      go content.Cells e = let z = text_now content.Cells e in in_parts (ap rules.is_parts_mode (cells_mode_is c.mode (mode_in n q content.Cells e))) (fosters_at _ _ (and_parts (is_row_context (n.tag d.name)) _ (current_in n q content.Cells e)).1 z.1) z.0
-      go content.Columns e = put_at_once InColumnGroup is_space (rules.space_puts n z d up items InColumnGroup refl) (columns_mode_is c.mode (mode_in n q content.Columns e)) (text_now content.Columns e)
+      go content.TableParts e = let z = text_now content.TableParts e in in_parts (ap rules.is_parts_mode ((own_mode c.mode).parts (mode_in n q content.TableParts e))) (fosters_at _ _ (and_parts (is_table_context (n.tag d.name)) _ (current_in n q content.TableParts e)).1 z.1) z.0
+      go content.TableRows e = let z = text_now content.TableRows e in in_parts (ap rules.is_parts_mode ((own_mode c.mode).rows (mode_in n q content.TableRows e))) (fosters_at _ _ (and_parts (is_body_context (n.tag d.name)) _ (current_in n q content.TableRows e)).1 z.1) z.0
+      go content.Cells e = let z = text_now content.Cells e in in_parts (ap rules.is_parts_mode ((own_mode c.mode).cells (mode_in n q content.Cells e))) (fosters_at _ _ (and_parts (is_row_context (n.tag d.name)) _ (current_in n q content.Cells e)).1 z.1) z.0
+      go content.Columns e = put_at_once InColumnGroup is_space (rules.space_puts n z d up items InColumnGroup refl) ((own_mode c.mode).columns (mode_in n q content.Columns e)) (text_now content.Columns e)
       go content.Empty e = absurd (text_now content.Empty e)
       go k e = put_at_once c.mode is_clean_char (rules.flow_puts n z d up items c.mode (mode_in n q k e) q.listed) refl good.is.clean
 

@@ -6,11 +6,13 @@ ghost use Rattle.hlaws.specs.OneAnswer.{OneAnswer, OneParse};
 ghost use Rattle.hlaws.specs.Unrefused.{FrontsOfAnswered, FrontsOfParsed, RulesRefuse, ProfileRefuses};
 
 /// A plain list of trees, as it is written, is read as its own tokens, in each context in which it is plain.
+#[tactic(auto, using(crate::proofs::TokensWhole::tokens_law))]
 pub fn plain_tokens()
     ensures { PlainTokens }
 {}
 
 /// The tokens of a plain list of trees build it, from each quiet state of tree construction.
+#[tactic(auto, using(crate::proofs::PlainBuilds::law))]
 pub fn plain_builds()
     ensures { PlainBuilds }
 {}
@@ -22,16 +24,19 @@ pub fn plain_comes_back()
 {}
 
 /// A plain document, as it is written, is read as its own tokens.
+#[tactic(auto, using(crate::proofs::TokensDocument::tokens_law))]
 pub fn plain_document_tokens()
     ensures { PlainDocumentTokens }
 {}
 
 /// The tokens of a plain document build it, from the state in which a document begins.
+#[tactic(auto, using(crate::proofs::Documents::law))]
 pub fn plain_document_builds()
     ensures { PlainDocumentBuilds }
 {}
 
 /// A plain document comes back when what is written of it is parsed. So does one whose doctype has identifiers, but without them.
+#[tactic(auto, using(crate::proofs::DocumentBack::law, crate::proofs::DocumentBack::law_without))]
 pub fn plain_document_comes_back()
     ensures whole { PlainDocumentComesBack }
     ensures identifiers { ComesBackWithoutIdentifiers }
@@ -39,6 +44,7 @@ pub fn plain_document_comes_back()
 
 /// The bytes of a document have exactly one answer: its tokens and its errors in their order, or what it is refused for, with the
 /// place. So however the bytes are cut into pieces, what `hparse` gives of them is the same, unless memory runs out.
+#[tactic(auto, using(crate::proofs::OneAnswer::one_answer))]
 pub fn one_answer()
     ensures { OneAnswer }
 {}
@@ -46,11 +52,13 @@ pub fn one_answer()
 /// The bytes of a document or of a fragment are parsed in exactly one way: a tree and the errors in their order, or what they are
 /// refused for, with the place. So however the bytes are cut into pieces, what a parser gives of them is the same, unless memory runs
 /// out.
+#[tactic(auto, using(crate::proofs::OneParse::one_parse))]
 pub fn one_parse()
     ensures { OneParse }
 {}
 
 /// No run refuses a front of an input that is accepted, whatever was to follow.
+#[tactic(auto, using(crate::proofs::Unrefused::fronts_of_answered, crate::proofs::Unrefused::fronts_of_parsed))]
 pub fn fronts_of_accepted()
     ensures tokens { FrontsOfAnswered }
     ensures tree { FrontsOfParsed }
