@@ -32,7 +32,7 @@ pub use Rattle.hmodes.specs.RawFollows.{ComesToText, Inserts, IsInText, IsLimit,
 pub use Rattle.hmodes.specs.Reached.{Reached, after, fragment}
 pub use Rattle.hmodes.specs.Reset.{context_mode, open_mode, reset_mode, root_mode}
 pub use Rattle.hmodes.specs.Rules.{mode_error, rule_of}
-pub use Rattle.hmodes.specs.Runs.{AreSome, before_text, char_rule, is_for_text, keeps, pends_each, put_all, puts_each, puts_in, takes_char}
+pub use Rattle.hmodes.specs.Runs.{AreSome, before_text, char_rule, is_for_text, keeps, pends_each, put_all, puts_each, puts_in, takes_char, pending_rule}
 pub use Rattle.hmodes.specs.Mapped.{StepsKnowNoNames, mapped_flow, mapped_placed, mapped_state, mapped_token}
 pub use Rattle.hmodes.specs.State.{Again, Control, Done, Flow, PlacedToken, Refused, State, Token, character, comment, doctype, end, eof, flow_map, flow_then, is_self_closing, kind_of, renamed, start, token_attrs, token_char, token_name, token_text}
 pub use Rattle.hmodes.specs.States.{state_of}

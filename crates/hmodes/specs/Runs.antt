@@ -10,7 +10,8 @@ use Rattle.hadopt.specs.Site.{Outcome, Goes, SiteOf, and_then}
 use Rattle.hmodes.specs.Body.{character_in_body}
 use Rattle.hmodes.specs.Perform.{current_node}
 use Rattle.hmodes.specs.State.{State}
-use Rattle.hmodes.specs.Words.{Do, put, pend}
+use Rattle.hmodes.specs.Table.{other_in_table}
+use Rattle.hmodes.specs.Words.{Do, Char, put, pend}
 use Rattle.hmodes.specs.declared.mode.Mode.{Mode}
 use Rattle.hmodes.specs.declared.mode.Mode.TheVariants.{InBody, Text, InTableText, InCaption, InCell}
 
@@ -61,3 +62,8 @@ keeps _ = false
 
 abbrev pub pends_each : State ℕ → Bool
 pends_each s = not s.control.drop_lf && keeps s.control.mode
+
+-- how each pending character is put, where all are white space or not
+abbrev pub pending_rule : Bool → Do
+pending_rule true = put
+pending_rule false = other_in_table Char

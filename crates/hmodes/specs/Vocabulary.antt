@@ -26,7 +26,7 @@ pub use Rattle.hmodes.specs.RawFollows.{RawFollows}
 pub use Rattle.hmodes.specs.Reached.{HasOneStep, Reached}
 pub use Rattle.hmodes.specs.Reset.{context_mode, open_mode, root_mode, reset_mode}
 pub use Rattle.hmodes.specs.Rules.{rule_of, mode_error}
-pub use Rattle.hmodes.specs.Runs.{AreSome, puts_each, pends_each, takes_char, before_text, put_all, char_rule}
+pub use Rattle.hmodes.specs.Runs.{AreSome, puts_each, pends_each, takes_char, before_text, put_all, char_rule, pending_rule}
 pub use Rattle.hmodes.specs.Mapped.{StepsKnowNoNames}
 pub use Rattle.hmodes.specs.Stand.{OpenNodesStand}
 pub use Rattle.hmodes.specs.State.{character, Token, State, is_self_closing, Token as TokenOf, Done as DoneOf, token_attrs, token_name, token_text, token_char}
@@ -39,7 +39,7 @@ pub use Rattle.hmodes.specs.Tokens.{token_of}
 pub use Rattle.hmodes.specs.Uses.{Uses}
 pub use Rattle.hmodes.specs.Words.{Start, End, ◌▸◌, choose, error, to, insert, reconstruct, has_in, again, other_end, pop, push_head, when, push_to_list, adopt}
 pub use Rattle.hmodes.specs.Words.{adopt_listed, name_is_listed, unless, put, pop_to, form_pointer, form_is_set, Char, each_pending, pend, pending_is_ws, reset}
-pub use Rattle.hmodes.specs.Words.{clear_to_table, current_is_name, pop_to_name, implied, clear_to_marker, second_is_body, current_is_form, has_form_in_scope}
+pub use Rattle.hmodes.specs.Words.{clear_to_table, current_is_name, pop_to_name, implied, clear_to_marker}
 pub use Rattle.hmodes.specs.Words.{item_is_near, implied_except, current_is, current_is_group, insert_comment, comment_in_document, comment_in_first, implied_except_name}
 pub use Rattle.hmodes.specs.declared.mode.Mode.TheVariants.{InBody, AfterBody, AfterHead, InTable, InCell}
 pub use Rattle.hnodes.specs.Rows.{attribute_of}

@@ -1,16 +1,17 @@
-//! Where a document and a fragment begin (HTML Standard, `#parsing-html-fragments`).
+//! Where a document and a fragment begin, and resetting the insertion mode (HTML Standard, `#parsing-html-fragments` and
+//! `#reset-the-insertion-mode-appropriately`).
 
 ghost use Rattle.std.specs.Prelude.{◌≡◌, IfOk, MatchResult};
-ghost use Rattle.hmodes.specs.Vocabulary.{tag_of, numbers, state_of, Memory, control_in, form_of, document_begins, fragment_begins, fragment_site};
+ghost use Rattle.std.specs.Option.{option_map_or};
+ghost use Rattle.hmodes.specs.Vocabulary.{numbers, state_of, Memory, control_in, document_begins, fragment_begins, fragment_site, from_top, InBody, context_mode, stack, open_mode, root_mode, reset_mode};
 
-use crate::control::Control;
 use crate::limits::Limits;
 use crate::mode::Mode;
-use crate::reset::context_mode;
-use crate::tree_construction::TreeConstruction;
+use crate::tree_construction::{Control, TreeConstruction};
 use hadopt::Site;
 use hmarkup::Quirks;
 use hnodes::NodeId;
+use hopen::Group;
 use names::{Keys, NameId, Refusal, Tag};
 use std::alloc::{AllocError, Global};
 
@@ -47,13 +48,34 @@ fn fragment_site(alloc: Global, keys: Keys, limits: Limits) -> Result<(Site, Nod
     }
 }
 
-/// The form pointer in a context: the document stands for a form that is the context.
-fn form_pointer(site: &Site, context: NameId) -> Option<NodeId>
-    ensures { result ≡ form_of (tag_of context) }
+/// The mode that an open node decides on.
+fn open_mode(tag: Tag) -> Option<Mode>
+    ensures { result ≡ open_mode tag }
 {
-    match context.tag() {
-        Tag::Form => Some(site.tree().document()),
+    match tag {
+        Tag::Td | Tag::Th => Some(Mode::InCell),
+        Tag::Tr => Some(Mode::InRow),
+        Tag::Tbody | Tag::Thead | Tag::Tfoot => Some(Mode::InTableBody),
+        Tag::Caption => Some(Mode::InCaption),
+        Tag::Colgroup => Some(Mode::InColumnGroup),
+        Tag::Table => Some(Mode::InTable),
+        Tag::Body => Some(Mode::InBody),
         _ => None,
+    }
+}
+
+/// The mode that a context decides on.
+fn context_mode(tag: Tag) -> Mode
+    ensures { result ≡ context_mode tag }
+{
+    match tag {
+        Tag::Tr => Mode::InRow,
+        Tag::Tbody | Tag::Thead | Tag::Tfoot => Mode::InTableBody,
+        Tag::Caption => Mode::InCaption,
+        Tag::Colgroup => Mode::InColumnGroup,
+        Tag::Table => Mode::InTable,
+        Tag::Html => Mode::BeforeHead,
+        _ => Mode::InBody,
     }
 }
 
@@ -87,7 +109,11 @@ impl<'q> TreeConstruction<'q> {
         ensures { MatchResult result (λ r. (state_of r.0 ≡ fragment_begins numbers context limits.tree) × (r.1 ≡ 1)) (λ e. e ≡ Memory) }
     {
         let (site, root) = fragment_site(alloc, keys, limits)?;
-        let form = form_pointer(&site, context);
+        // the document stands for a form that is the context
+        let form = match context.tag() {
+            Tag::Form => Some(site.tree().document()),
+            _ => None,
+        };
         let state = TreeConstruction {
             site,
             control: control_in(alloc, context_mode(context.tag()), form),
@@ -96,5 +122,30 @@ impl<'q> TreeConstruction<'q> {
             alloc,
         };
         Ok((state, root))
+    }
+
+    /// Reset the insertion mode appropriately: the mode that fits the open nodes, going up from the current one, is that of the first that
+    /// decides.
+    pub(crate) fn reset_mode(&self) -> Mode
+        ensures { result ≡ reset_mode numbers self.now.context (stack self.now.site) }
+    {
+        match self.site.nearest_below_first(Group::TellsMode) {
+            // the first open node is read as the context
+            Some(node) => open_mode(node.name.tag()).unwrap_or(Mode::InBody),
+            None => self.root_mode(),
+        }
+    }
+
+    /// The mode that the first open node decides on, which is read as the context, where there is one.
+    fn root_mode(&self) -> Mode
+        ensures { result ≡ option_map_or (root_mode numbers self.now.context) (from_top 0 self.now.site) InBody }
+    {
+        match self.site.from_top(0) {
+            Some(root) => match self.context {
+                Some(context) => context_mode(context.tag()),
+                None => open_mode(root.name.tag()).unwrap_or(Mode::InBody),
+            },
+            None => Mode::InBody,
+        }
     }
 }

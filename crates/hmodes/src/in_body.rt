@@ -1,6 +1,7 @@
-//! The "in body" insertion mode (HTML Standard, `#parsing-main-inbody`).
+//! The "in body" and "text" insertion modes, and those after the body (HTML Standard, `#parsing-main-inbody`, `#parsing-main-incdata`
+//! and `#parsing-main-afterbody`).
 
-ghost use Rattle.hmodes.specs.Vocabulary.{in_body, body_ends, character_in_body, End, ◌▸◌, choose, error, to, insert, reconstruct, has_in, InBody, AfterBody, IsSound, numbers, ended, StateGives, perform, character, state_of, Start, other_end, Performs, AlwaysPerforms, Does};
+ghost use Rattle.hmodes.specs.Vocabulary.{in_body, text, after_body, after_after_body, body_ends, character_in_body, End, ◌▸◌, choose, error, to, again, insert, reconstruct, has_in, InBody, AfterBody, IsSound, numbers, ended, StateGives, perform, character, state_of, Start, other_end, Performs, AlwaysPerforms, Does};
 ghost use Rattle.hmodes.specs.declared.family.Family.TheVariants as family;
 ghost use Rattle.hopen.specs.declared.scope.Scope.TheVariants as scope;
 ghost use Rattle.names.specs.declared.tag.Tag.TheVariants as tag;
@@ -120,10 +121,8 @@ impl<'q> TreeConstruction<'q> {
     pub(crate) fn check_open(&mut self, at: u64) -> Result<(), Refusal>
         ensures { Does at body_ends self.old result self.new }
     {
-        if self.site.all_may_stay_open() {
-            return Ok(());
-        }
-        self.error(Mode::InBody, at)
+        let may_end = self.site.all_may_stay_open();
+        self.error_unless(may_end, Mode::InBody, at)
     }
 
     /// The start tag body where it is not the first.
@@ -131,7 +130,8 @@ impl<'q> TreeConstruction<'q> {
         ensures { Performs at (in_body (Start family.Body)) token.old self.old result token.new self.new }
     {
         self.error(Mode::InBody, at)?;
-        if !self.second_is_body() {
+        let second = self.site.from_top(1);
+        if !second.is_some_and(|open_node| open_node.name == Tag::Body.number()) {
             return Ok(Flow::Done);
         }
         done(self.add_missing(1, token))
@@ -162,5 +162,66 @@ impl<'q> TreeConstruction<'q> {
         ensures { Performs at other_end token.now self.old result token.now self.new }
     {
         done(self.site.other_end(token_name(token), at))
+    }
+
+    /// The "text" insertion mode (`#parsing-main-incdata`).
+    pub(crate) fn text(&mut self, kind: TokenKind, token: &mut Token, at: u64) -> Ruling
+        ensures { Performs at (text kind) token.old self.old result token.new self.new }
+    {
+        match kind {
+            TokenKind::Nul | TokenKind::Ws | TokenKind::Char => self.put(token, at),
+            TokenKind::Eof => {
+                self.error(Mode::Text, at)?;
+                self.site.pop();
+                self.control.mode = self.control.saved;
+                Ok(Flow::Again)
+            }
+            TokenKind::End(_) => self.pop_and_go(self.control.saved, Flow::Done),
+            _ => self.ignore(Mode::Text, at),
+        }
+    }
+
+    /// The "after body" insertion mode (`#parsing-main-afterbody`).
+    pub(crate) fn after_body(&mut self, kind: TokenKind, token: &mut Token, at: u64) -> Ruling
+        ensures { Performs at (after_body kind) token.old self.old result token.new self.new }
+    {
+        match kind {
+            TokenKind::Ws => self.character_in_body(token, at),
+            TokenKind::Comment => self.comment_in_first(token, at),
+            TokenKind::Doctype => self.ignore(Mode::AfterBody, at),
+            TokenKind::Start(Family::Html) => self.html_again(token, at),
+            TokenKind::End(Family::Html) => {
+                if self.context.is_some() {
+                    return self.ignore(Mode::AfterBody, at);
+                }
+                self.control.mode = Mode::AfterAfterBody;
+                Ok(Flow::Done)
+            }
+            TokenKind::Eof => Ok(Flow::Done),
+            _ => self.back_to_body(Mode::AfterBody, at),
+        }
+    }
+
+    /// What belongs in the body comes after it.
+    fn back_to_body(&mut self, mode: Mode, at: u64) -> Ruling
+        ensures { AlwaysPerforms at (error mode ▸ to InBody ▸ again) self.old result self.new }
+    {
+        self.error(mode, at)?;
+        self.control.mode = Mode::InBody;
+        Ok(Flow::Again)
+    }
+
+    /// The "after after body" insertion mode (`#the-after-after-body-insertion-mode`).
+    pub(crate) fn after_after_body(&mut self, kind: TokenKind, token: &mut Token, at: u64) -> Ruling
+        ensures { Performs at (after_after_body kind) token.old self.old result token.new self.new }
+    {
+        match kind {
+            TokenKind::Comment => self.comment_in_document(token, at),
+            TokenKind::Doctype => self.ignore(Mode::InBody, at),
+            TokenKind::Ws => self.character_in_body(token, at),
+            TokenKind::Start(Family::Html) => self.html_again(token, at),
+            TokenKind::Eof => Ok(Flow::Done),
+            _ => self.back_to_body(Mode::AfterAfterBody, at),
+        }
     }
 }

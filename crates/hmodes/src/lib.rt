@@ -2,30 +2,19 @@
 //! `#tree-construction` and `#parsing-html-fragments`).
 #![tactic(auto)]
 
-mod after_body;
-mod before_head;
 mod beginning;
-mod blocks;
 mod builder;
-mod control;
+mod elements;
 pub mod family;
 mod in_body;
-mod in_caption;
-mod in_cell;
 mod in_head;
-mod in_row;
 mod in_table;
-mod initial;
 mod laws;
 mod limits;
 mod mode;
-mod phrases;
-mod reset;
 mod runs;
 mod step;
-mod table_body;
 mod table_text;
-mod text;
 mod token;
 pub mod token_kind;
 mod tree_construction;

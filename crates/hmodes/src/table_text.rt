@@ -3,7 +3,7 @@
 ghost use Rattle.std.specs.Prelude.{◌≡◌, ◌+◌, ◌≤◌, ◌++◌, ◌&&◌, [], not, true, false, if◌then◌else◌, length, map, OnOk, IfErr, string_bytes, encode_utf8_all};
 ghost use Rattle.std.specs.List.{list_all};
 ghost use Rattle.std.specs.Str.{chars};
-ghost use Rattle.hmodes.specs.Vocabulary.{each_of, with_control, in_table_text, numbers, StateGives, perform, state_of, other_in_table, character, choose, put, Char, each_pending, pend, pending_is_ws, is_space, Performs, Does, Memory, MAX_INPUT, placed};
+ghost use Rattle.hmodes.specs.Vocabulary.{each_of, with_control, in_table_text, numbers, StateGives, perform, state_of, other_in_table, character, choose, put, Char, each_pending, pend, pending_rule, pending_is_ws, is_space, Performs, Does, Memory, MAX_INPUT, placed};
 
 use crate::mode::Mode;
 use crate::token::token_char;
@@ -90,7 +90,7 @@ impl<'q> TreeConstruction<'q> {
             return self.put_spaces();
         }
         let pending = self.take_pending();
-        self.put_all(pending)
+        self.put_each(pending)
     }
 
     /// Whether all pending characters are white space, and nothing is foster parented.
@@ -98,6 +98,14 @@ impl<'q> TreeConstruction<'q> {
         ensures { result ≡ (not self.now.site.foster && list_all (λ c. is_space c.ch) self.now.control.pending) }
     {
         !self.site.fosters() && are_ws(&self.control.pending)
+    }
+
+    /// Takes the pending characters out.
+    fn take_pending(&mut self) -> Vec<Placed>
+        ensures taken { result.items ≡ self.old.control.pending }
+        ensures rest { state_of self.new ≡ with_control (record self.old.control { pending = [] }) (state_of self.old) }
+    {
+        mem::replace(&mut self.control.pending, Vec::new(self.alloc))
     }
 
     /// Puts pending white space at the current node as one text: the same comes of it wherever all characters but the first are.
@@ -118,51 +126,26 @@ impl<'q> TreeConstruction<'q> {
         self.site.put_text(&self.control.spaces, place, at)
     }
 
-    /// Characters that were pending: white space is put as it is, others go as anything else in a table.
-    fn put_all(&mut self, pending: Vec<Placed>) -> Result<(), Refusal>
+    /// Characters that were pending, each at its own place: white space is put as it is, others go as anything else in a table.
+    fn put_each(&mut self, pending: Vec<Placed>) -> Result<(), Refusal>
         ensures { StateGives result (state_of self.new)
             (if list_all (λ c. is_space c.ch) pending.items then each_of (λ c. perform numbers c.at (character c.ch) put) pending.items (state_of self.old)
             else each_of (λ c. perform numbers c.at (character c.ch) (other_in_table Char)) pending.items (state_of self.old)) }
     {
-        if are_ws(&pending) {
-            return self.put_each(pending);
-        }
-        self.foster_each(pending)
-    }
-
-    /// Takes the pending characters out.
-    fn take_pending(&mut self) -> Vec<Placed>
-        ensures taken { result.items ≡ self.old.control.pending }
-        ensures rest { state_of self.new ≡ with_control (record self.old.control { pending = [] }) (state_of self.old) }
-    {
-        mem::replace(&mut self.control.pending, Vec::new(self.alloc))
-    }
-
-    /// Each character is put at its own place.
-    fn put_each(&mut self, pending: Vec<Placed>) -> Result<(), Refusal>
-        ensures { StateGives result (state_of self.new) (each_of (λ c. perform numbers c.at (character c.ch) put) pending.items (state_of self.old)) }
-    {
+        let spaces = are_ws(&pending);
         for c in pending {
-            self.put_char(c.ch, c.at)?;
+            self.put_one_pending(spaces, c.ch, c.at)?;
         }
         Ok(())
     }
 
-    /// Each character goes as anything else in a table.
-    fn foster_each(&mut self, pending: Vec<Placed>) -> Result<(), Refusal>
-        ensures { StateGives result (state_of self.new)
-            (each_of (λ c. perform numbers c.at (character c.ch) (other_in_table Char)) pending.items (state_of self.old)) }
+    /// One of them.
+    fn put_one_pending(&mut self, space: bool, ch: char, at: u64) -> Result<(), Refusal>
+        ensures { StateGives result (state_of self.new) (perform numbers at (character ch) (pending_rule space) (state_of self.old)) }
     {
-        for c in pending {
-            self.foster_char(c.ch, c.at)?;
+        if space {
+            return self.put_char(ch, at);
         }
-        Ok(())
-    }
-
-    /// A character that is foster parented.
-    fn foster_char(&mut self, ch: char, at: u64) -> Result<(), Refusal>
-        ensures { StateGives result (state_of self.new) (perform numbers at (character ch) (other_in_table Char) (state_of self.old)) }
-    {
         self.error(Mode::InTable, at)?;
         self.site.set_foster(true);
         self.put_in_body(ch, at)?;

@@ -1,20 +1,59 @@
-//! The state that the rules of all insertion modes work on, how a rule ends, and the codes of its errors.
+//! The state that the rules of all insertion modes work on (HTML Standard, `#parse-state`), how a rule ends, and the codes of its errors.
 
 ghost use Rattle.std.specs.Prelude.{◌≡◌, ℕ};
 ghost use Rattle.hmodes.specs.Vocabulary.{FlowGives, StateGives, TokenOf, mode_error, StateOf, FlowOf};
 
-use crate::control::Control;
 use crate::mode::Mode;
 use hadopt::Site;
 use hmarkup::Quirks;
-use names::{ErrorCode, NameId, Refusal};
+use hnodes::NodeId;
+use names::{ErrorCode, NameId, Placed, Refusal};
 use std::alloc::Global;
+use std::marker::Model;
 
 /// What comes of a rule: it ends, or the token is reprocessed.
 #[derive(Clone, Copy)]
 pub(crate) enum Flow {
     Done,
     Again,
+}
+
+/// The mode, the pointers, the flags, and the pending table characters.
+#[derive(Drop)]
+pub(crate) struct Control {
+    pub(crate) mode: Mode,
+    /// The original insertion mode (`#original-insertion-mode`).
+    pub(crate) saved: Mode,
+    /// The head element pointer.
+    pub(crate) head: Option<NodeId>,
+    /// The form element pointer; the document stands for a context, which is never open.
+    pub(crate) form: Option<NodeId>,
+    pub(crate) quirks: bool,
+    /// The pending table character tokens.
+    pub(crate) pending: Vec<Placed>,
+    /// Room for their text, if they are white space.
+    pub(crate) spaces: String,
+    /// Whether the next token is ignored if it is a LF.
+    pub(crate) drop_lf: bool,
+    /// Whether the self-closing flag of this token was acknowledged (`#acknowledge-self-closing-flag`).
+    pub(crate) acknowledged: bool,
+}
+
+impl Model for Control {
+    ghost use Rattle.hmodes.specs.State.{Control as ControlOf};
+
+    ghost Value = { ControlOf };
+
+    ghost view = { λ c. record {
+      mode = c.mode;
+      saved = c.saved;
+      head = c.head;
+      form = c.form;
+      quirks = c.quirks;
+      pending = c.pending.items;
+      drop_lf = c.drop_lf;
+      acknowledged = c.acknowledged;
+    } };
 }
 
 /// The state of the tree construction.

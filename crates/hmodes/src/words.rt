@@ -1,9 +1,9 @@
 //! The steps that the rules of the insertion modes are made of, and what they ask (HTML Standard, `#creating-and-inserting-nodes` to
 //! `#parsing-main-inhtml`).
 
-ghost use Rattle.std.specs.Prelude.{IfOk, [], ◌≡◌};
-ghost use Rattle.hmodes.specs.Vocabulary.{current_node, on_site, site_becomes, inserted_here, completed, html_again, answer_of, eof, IsSound, numbers, from_top, StateGives, perform, void, raw, close_p_in_scope, character};
-ghost use Rattle.hmodes.specs.Vocabulary.{token_attrs, state_of, token_of, InBody, error, insert, put, unless, current_is_name, pop_to_name, implied, clear_to_marker, ◌▸◌, second_is_body, current_is_form, has_form_in_scope};
+ghost use Rattle.std.specs.Prelude.{IfOk, [], ◌≡◌, if◌then◌else◌};
+ghost use Rattle.hmodes.specs.Vocabulary.{current_node, on_site, site_becomes, inserted_here, completed, html_again, DoneOf, performed, IsSound, numbers, from_top, StateGives, perform, void, raw, close_p_in_scope, character};
+ghost use Rattle.hmodes.specs.Vocabulary.{token_attrs, state_of, token_of, InBody, error, insert, put, unless, current_is_name, pop_to_name, implied, clear_to_marker, ◌▸◌};
 ghost use Rattle.hmodes.specs.Vocabulary.{insert_comment, comment_in_document, comment_in_first, implied_except_name, Performs, AlwaysPerforms, Does, DoesFor};
 
 use crate::mode::Mode;
@@ -29,6 +29,17 @@ impl<'q> TreeConstruction<'q> {
         ensures { AlwaysPerforms at (error mode) self.old result self.new }
     {
         done(self.error(mode, at))
+    }
+
+    /// A parse error, by the rules of a mode, unless this holds.
+    #[inline(always)]
+    pub(crate) fn error_unless(&mut self, holds: bool, mode: Mode, at: u64) -> Result<(), Refusal>
+        ensures { StateGives result (state_of self.new) (if holds then DoneOf (state_of self.old) else performed at (error mode) (state_of self.old)) }
+    {
+        if holds {
+            return Ok(());
+        }
+        self.error(mode, at)
     }
 
     /// An HTML element for a start tag at the appropriate place (`#insert-an-html-element`).
@@ -160,9 +171,8 @@ impl<'q> TreeConstruction<'q> {
     pub(crate) fn pop_to(&mut self, mode: Mode, name: NameId, at: u64) -> Result<(), Refusal>
         ensures { DoesFor name at (unless current_is_name (error mode) ▸ pop_to_name) self.old result self.new }
     {
-        if !self.site.current_is(name) {
-            self.error(mode, at)?;
-        }
+        let is_current = self.site.current_is(name);
+        self.error_unless(is_current, mode, at)?;
         self.site.pop_to(name);
         Ok(())
     }
@@ -192,35 +202,6 @@ impl<'q> TreeConstruction<'q> {
         match self.site.current() {
             Some(open_node) => open_node.node,
             None => self.site.tree().document(),
-        }
-    }
-
-    /// Whether the second open node is a body.
-    pub(crate) fn second_is_body(&self) -> bool
-        ensures { result ≡ answer_of numbers eof second_is_body (state_of self.now) }
-    {
-        self.site
-            .from_top(1)
-            .is_some_and(|open_node| open_node.name == Tag::Body.number())
-    }
-
-    /// Whether the form pointer is set, and its node in scope.
-    pub(crate) fn form_in_scope(&self) -> bool
-        ensures { result ≡ answer_of numbers eof has_form_in_scope (state_of self.now) }
-    {
-        match self.control.form {
-            Some(form) => self.site.node_in_scope(form),
-            None => false,
-        }
-    }
-
-    /// Whether the form pointer's node is the current one.
-    pub(crate) fn current_is_form(&self) -> bool
-        ensures { result ≡ answer_of numbers eof current_is_form (state_of self.now) }
-    {
-        match self.control.form {
-            Some(form) => self.site.is_current(form),
-            None => false,
         }
     }
 }

@@ -1,15 +1,11 @@
 use Rattle.std.proofs.Common.{rules}
-use Rattle.hmodes.proofs.Vocabulary.{raw, void, late, after_head, body_unwritten, error, AfterHead}
+use Rattle.hmodes.proofs.Vocabulary.{late, in_head, after_head, body_unwritten, error, AfterHead}
 use Rattle.hmodes.proofs.Ways.{as-rule}
 use Rattle.hmodes.proofs.tree_construction.TreeConstruction.after_head.Goals as goal
 
 pub returns-in-Start-Base : goal.returns-in-Start-Base
 returns-in-Start-Base c =
-    as-rule (after_head c.args.kind) (late void) c.args.at c.args.token.now c.args.self.now c.late_void.result c.late_void.new.token c.late_void.new.self (search rules) c.late_void.ensures
-
-pub returns-in-Start-Noframes : goal.returns-in-Start-Noframes
-returns-in-Start-Noframes c =
-    as-rule (after_head c.args.kind) (late raw) c.args.at c.args.token.now c.args.self.now c.late_raw.result c.late_raw.new.token c.late_raw.new.self (search rules) c.late_raw.ensures
+    as-rule (after_head c.args.kind) (late (in_head c.args.kind)) c.args.at c.args.token.now c.args.self.now c.late.result c.late.new.token c.late.new.self (search rules) c.late.ensures
 
 pub returns-in-End-Body : goal.returns-in-End-Body
 returns-in-End-Body c =

@@ -17,7 +17,7 @@ returns c =
     let t = token_of c.args.token.now in
     let s : State ℕ = state_of c.args.self.now in
     let s' : State ℕ = state_of c.if-in_scope.self in
-    let s'' : State ℕ = state_of c.if-not-current_is.self in
+    let s'' : State ℕ = state_of c.error_unless.new.self in
     let closed : perform numbers c.args.at t closes s ≡ Done s' = search (tests, rules) in
     let expected : perform numbers c.args.at t expects s' ≡ Done s'' = search (tests, rules) in
     c.done.ensures (token_of c.insert.new.token) (state_of c.insert.new.self) _
