@@ -1,9 +1,9 @@
 -- What holds of the state between two rules.
-use Rattle.hmodes.proofs.Vocabulary.{cond_both, ◌≡◌, ℕ, zero, suc, ◌+◌, ◌<◌, eqb, ltb, if◌then◌else◌, false, not, List, [], ◌∷◌, Some, refl, subst, arith, ◌&&◌, lt-leb, ne_eqb, element, tree, PlacedToken, Steps, IfSome, QuirkLine, NonVoidHtmlElementStartTagWithTrailingSolidus, deep-there, Naming, numbers, texts, Outcome, Goes, stack, trees, with_error, TellsTables, IsSound, OnGoes, from-well, numbers-tell, texts-tell, Well, Mode, AfterHead, Limits, document_begins, fragment_begins, Reached, fragment, after, Token, State, Flow, Done, Again, Refused, is_self_closing, kind_of, TokenKind, Rule, Chain, Step, ends, refuses, goes_again, drops, goes, step_begun, finished}
+use Rattle.hmodes.proofs.Vocabulary.{if◌then◌else◌, cond_both, ◌≡◌, ℕ, zero, suc, ◌+◌, ◌<◌, eqb, ltb, not, List, [], ◌∷◌, Some, refl, subst, arith, ◌&&◌, lt-leb, ne_eqb, element, tree, PlacedToken, Steps, IfSome, QuirkLine, NonVoidHtmlElementStartTagWithTrailingSolidus, deep-there, Naming, numbers, texts, Outcome, Goes, stack, trees, with_error, TellsTables, IsSound, OnGoes, from-well, numbers-tell, texts-tell, Well, Mode, AfterHead, Limits, document_begins, fragment_begins, Reached, fragment, after, Token, State, Flow, Done, Again, Refused, is_self_closing, kind_of, Rule, Chain, Step, ends, refuses, goes_again, drops, goes, step_begun, finished}
 use Rattle.hmodes.proofs.Every.{by_option}
 use Rattle.names.specs.declared.tag.Tag.TheVariants as tag
 use Rattle.hmodes.specs.Reached.{document}
-use Rattle.hmodes.proofs.Down.{Sound, FlowHolds, Any, cap, rule-down}
+use Rattle.hmodes.proofs.Down.{Sound, FlowFalls, cap, rule-down}
 use Rattle.hmodes.proofs.Facts.{reset-found}
 use Rattle.hmodes.proofs.HeadFacts.{HeadFacts, FlowFacts, Facts, OutOf, late-facts}
 use Rattle.hmodes.proofs.HeadRules.{rule-facts}
@@ -80,7 +80,7 @@ module _ {N : Type 0} (n : Naming N) where
       let r = reset-found n (Some context) (stack (fragment_begins n context limits).site) in
       record {
         well = fragment-well n context limits;
-        head = late-facts (fragment_begins n context limits) (record { mode = r.0; saved = λ e. r.0; texty = λ i. r.0 });
+        head = late-facts (fragment_begins n context limits) (record { mode = r.0; saved = λ e. r.0; sound = λ i. r.0 });
         sound = λ i. r.1;
       }
 
@@ -92,10 +92,10 @@ module _ {N : Type 0} (n : Naming N) where
   orderly-finishes at t s o = cond_both (is_self_closing t && not s.control.acknowledged) (record s { site = with_error NonVoidHtmlElementStartTagWithTrailingSolidus at s.site }) s Orderly (λ _. record { well = record { counted = o.well.counted; each = o.well.each; order = o.well.order; plain = o.well.plain }; head = o.head; sound = o.sound }) (λ _. o)
 
   module _ (tells : Tells n) where
-    together : (f : Flow N) (l : TokenKind × ℕ) → FlowWell n f → FlowFacts f → FlowHolds n tells.img (Some l) Any false f → FlowOrderly f
-    together (Done s) l w f h = record { well = w; head = f; sound = h.sound }
-    together (Again t s) l w f h = record { well = w; head = f; sound = h.0 }
-    together (Refused r) l w f h = tt
+    together : (f : Flow N) (r : ℕ) → FlowWell n f → FlowFacts f → FlowFalls n tells.img r f → FlowOrderly f
+    together (Done s) r w f h = record { well = w; head = f; sound = h }
+    together (Again t s) r w f h = record { well = w; head = f; sound = h.0 }
+    together (Refused e) r w f h = tt
 
     head-out : (s : State N) → HeadFacts s → s.control.mode ≡ AfterHead → HeadOut n tells.tables s
     head-out s f is h e = let o = out-of s f is h e in record { stands = o.0; out = o.1 }
@@ -103,7 +103,7 @@ module _ {N : Type 0} (n : Naming N) where
     -- every rule keeps it
     pub rule-orderly : (at : ℕ) (t : Token N) (s : State N) → Orderly s → FlowOrderly (Rule n at t s)
     rule-orderly at t s o =
-        together (Rule n at t s) (kind_of n t, cap (kind_of n t) s.control.mode) (rule-well n tells.tables at t s (head-out s o.head) o.well) (rule-facts n tells.tables at t s o.well o.head) (rule-down n tells.img at t s o.sound)
+        together (Rule n at t s) (cap (kind_of n t) s.control.mode) (rule-well n tells.tables at t s (head-out s o.head) o.well) (rule-facts n tells.tables at t s o.well o.head) (rule-down n tells.img at t s o.sound)
 
     pub again-orderly : (at : ℕ) (t t' : Token N) (s s' : State N) → Orderly s → Rule n at t s ≡ Again t' s' → Orderly s'
     again-orderly at t t' s s' o rule = subst FlowOrderly rule (rule-orderly at t s o)

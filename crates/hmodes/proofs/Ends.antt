@@ -1,14 +1,14 @@
 -- The rules that process a token end: a number that falls with each.
-use Rattle.hmodes.proofs.Vocabulary.{by_test, cond_both, ◌≡◌, ℕ, zero, suc, ◌+◌, ◌<◌, ◌≤◌, Bool, true, false, cond, if◌then◌else◌, List, [], ◌∷◌, Option, Some, leb, length, drop, refl, sym, ◌∙◌, ap, subst, arith, eqb-true, leb-true, not, ◌&&◌, ◌||◌, ◌==◌, stops_in_scope, OpenNode, in_scope, is, Naming, Outcome, Goes, stack, with_error, Mode, Text, InTable, InTableText, InColumnGroup, InTableBody, InRow, TokenKind, Nul, Ws, Char, Start, ◌▸◌, pop_to, reset, again, Token, State, Flow, Done, Again, Refused, kind_of, perform, with_site, rule_of, mode_error, Rule, Chain, Step, ends, refuses, goes_again, drops, goes, is_dropped, step_begun, finished, in_table, in_table_text}
+use Rattle.hmodes.proofs.Vocabulary.{if◌then◌else◌, by_test, cond_both, ◌≡◌, ℕ, zero, suc, ◌+◌, ◌<◌, ◌≤◌, Bool, true, false, cond, List, [], ◌∷◌, leb, length, drop, refl, sym, ◌∙◌, ap, subst, arith, eqb-true, leb-true, not, ◌&&◌, ◌||◌, ◌==◌, stops_in_scope, OpenNode, in_scope, is, Naming, Outcome, Goes, stack, with_error, Mode, Text, InTable, InTableText, InColumnGroup, InTableBody, InRow, TokenKind, Nul, Ws, Char, Start, ◌▸◌, pop_to, reset, again, Token, State, Flow, Done, Again, Refused, kind_of, perform, with_site, rule_of, mode_error, Rule, Chain, Step, ends, refuses, goes_again, drops, goes, is_dropped, step_begun, finished, in_table, in_table_text}
 use Rattle.hnodes.specs.Nearest.{after}
 use Rattle.hopen.specs.declared.scope.Scope.TheVariants as scope
 use Rattle.names.specs.declared.tag.Tag.TheVariants as tag
 use Rattle.hadopt.specs.Site as site
 use Rattle.hmodes.specs.declared.family.Family.TheVariants as family
 use Rattle.hmodes.proofs.Facts.{is_texty}
-use Rattle.hmodes.proofs.Once.{may_again, Ends, ends-calm}
+use Rattle.hmodes.proofs.Once.{never_again, Ends, ends-calm}
 use Rattle.hmodes.proofs.Every.{never, other, each-mode, in-each}
-use Rattle.hmodes.proofs.Down.{is_tabular, is_char, level, cap, level-plain, Sound, FlowHolds, rule-down, Any}
+use Rattle.hmodes.proofs.Down.{is_tabular, is_char, level, cap, level-plain, Sound, FlowFalls, rule-down}
 
 abbrev extra : Mode → ℕ
 extra InColumnGroup = 1
@@ -48,7 +48,7 @@ weight-most : (k : TokenKind) (m : Mode) (count : ℕ) → is_texty m ≡ false 
 weight-most k m count e = cond_both (is_tabular k m) (30 + (count + count) + extra m) (level k m) (λ z. 1 + z ≤ 32 + (count + count)) (λ _. omega (arith, extra-most m)) (λ _. omega (arith, leb-true (level k m) 30 (level-plain k m e)))
 
 -- no character is reprocessed in table text
-waits : (k : TokenKind) → is_char k ≡ true → may_again (in_table_text k) ≡ false
+waits : (k : TokenKind) → is_char k ≡ true → never_again (in_table_text k) ≡ true
 waits Nul e = refl
 waits Ws e = refl
 waits Char e = refl
@@ -166,19 +166,13 @@ module _ {N : Type 0} (n : Naming N) where
       go false e l = rw e (among (is_tabular k' m') refl l)
       go true e l = tabular-falls at t t' s s' plain' e rule
 
-  abbrev rule_cap : Token N → State N → Option (TokenKind × ℕ)
-  rule_cap t s = Some (kind_of n t, cap (kind_of n t) s.control.mode)
-
   module _ (tells : n.tag (n.known tag.Img) ≡ tag.Img) where
     -- it falls with every rule that has the token go again
     pub rule-falls : (at : ℕ) (t t' : Token N) (s s' : State N) → Sound s.control → Rule n at t s ≡ Again t' s' → left at t' s' < left at t s
     rule-falls at t t' s s' sound rule = go (is_texty s.control.mode) refl (is_texty s'.control.mode) refl
       where
-        holds : FlowHolds n tells (rule_cap t s) Any false (Again t' s')
-        holds = subst (FlowHolds n tells (rule_cap t s) Any false) rule (rule-down n tells at t s sound)
-
         low : level (kind_of n t') s'.control.mode < cap (kind_of n t) s.control.mode
-        low = holds.1
+        low = (subst (FlowFalls n tells (cap (kind_of n t) s.control.mode)) rule (rule-down n tells at t s sound)).1
 
         under : level (kind_of n t') s'.control.mode < 40
         under = omega (arith, low, cap-most (kind_of n t) s.control.mode)
@@ -193,7 +187,7 @@ module _ {N : Type 0} (n : Naming N) where
     some-chain zero at t s few sound = absurd (omega (arith, few))
     some-chain (suc most) at t s few sound = go (Rule n at t s) refl (rule-down n tells at t s sound) (some-chain most at)
       where
-        go : (f : Flow N) → Rule n at t s ≡ f → FlowHolds n tells (rule_cap t s) Any false f → ((u : Token N) (v : State N) → left at u v < most → Sound v.control → (o : Outcome (State N)) × Chain n at u v o) → (o : Outcome (State N)) × Chain n at t s o
+        go : (f : Flow N) → Rule n at t s ≡ f → FlowFalls n tells (cap (kind_of n t) s.control.mode) f → ((u : Token N) (v : State N) → left at u v < most → Sound v.control → (o : Outcome (State N)) × Chain n at u v o) → (o : Outcome (State N)) × Chain n at t s o
         go (Done u) rule h more = (Goes (finished at t u), ends rule)
         go (Refused r) rule h more = (site.Refused r, refuses rule)
         go (Again u v) rule h more =

@@ -1,6 +1,7 @@
 -- Nodes are made and never taken away: no token leads to fewer.
-use Rattle.hmodes.proofs.Vocabulary.{cond_both, ℕ, zero, suc, ◌≤◌, Bool, true, false, not, cond, leb, List, [], ◌∷◌, Option, Some, None, subst, length, drop, arith, ◌&&◌, is_none, option_map_or, TreeInBody, NonVoidHtmlElementStartTagWithTrailingSolidus, Placed, TooManyNodes, TooDeep, char_into, text_before, What, Attribute, element, Place, LastIn, before, stops_in_scope, is_named, OpenNode, is_node, is_open, current, above, in_scope, furthest_block, Default, EntryOf, entry_at, find_entry, without_entry, Turn, Next, Ended, next_turn, InnerLoop, most_turns, inner_turn, inner_loop, after_inner_loop, with_furthest_block, popped_with, with_formatting_element, outer_turn, outer_loop, is_unlisted, adopted, is, closed, without_implied, made, added, with_open, inserted, Naming, place, renewed, renewed_each, stops_going_back, Outcome, Goes, SiteOf, and_then, stack, trees, with_stack, with_items, with_error, error_unless, current_is, from_top, open_node, OnGoes, goes-then, doctype_node, perform, with_foster, with_control, each_of, flow_of, forgotten, current_node, adopted_listed, head_pushed, answer_of, rule_of, Token, character, State, Flow, Done, Again, Refused, kind_of, flow_then, flow_map, token_name, token_attrs, token_text, token_char, is_self_closing, Chain, ends, refuses, goes_again, Step, drops, goes, step_begun, finished, Do, ◌▸◌, when, unless, choose, fostered, each_pending, insert, insert_named, insert_root, insert_root_named, insert_comment, comment_in_document, comment_in_first, insert_doctype, push_head, reconstruct, close_p, adopt, adopt_listed}
+use Rattle.hmodes.proofs.Vocabulary.{cond_both, ℕ, zero, suc, ◌≤◌, Bool, true, false, not, cond, leb, List, [], ◌∷◌, Option, Some, None, subst, length, drop, arith, ◌&&◌, is_none, option_map_or, TreeInBody, NonVoidHtmlElementStartTagWithTrailingSolidus, TooManyNodes, TooDeep, char_into, text_before, What, Attribute, element, Place, LastIn, before, stops_in_scope, is_named, OpenNode, is_node, is_open, current, above, in_scope, furthest_block, Default, EntryOf, entry_at, find_entry, without_entry, Turn, Next, Ended, next_turn, InnerLoop, most_turns, inner_turn, inner_loop, after_inner_loop, with_furthest_block, popped_with, with_formatting_element, outer_turn, outer_loop, is_unlisted, adopted, is, closed, without_implied, made, added, with_open, inserted, Naming, place, renewed, renewed_each, stops_going_back, Outcome, Goes, SiteOf, and_then, stack, trees, with_stack, with_items, with_error, error_unless, current_is, from_top, open_node, OnGoes, goes-then, doctype_node, perform, with_foster, with_control, flow_of, forgotten, current_node, adopted_listed, head_pushed, answer_of, rule_of, Token, character, State, Flow, Done, kind_of, token_name, token_attrs, token_text, token_char, is_self_closing, Chain, ends, refuses, goes_again, Step, drops, goes, step_begun, finished, Do, ◌▸◌, when, unless, choose, fostered, each_pending, insert, insert_named, insert_root, insert_root_named, insert_comment, comment_in_document, comment_in_first, insert_doctype, push_head, reconstruct, close_p, adopt, adopt_listed}
 use Rattle.hmodes.proofs.Every.{by_option}
+use Rattle.hmodes.proofs.Programs.{Comes, comes-then, comes-map, comes-each, comes-site}
 use Rattle.hadopt.proofs.Climbing.{made-goes, inserted-goes, turn-goes}
 use Rattle.hadopt.specs.Adopts.{formatting_replaced}
 use Rattle.hadopt.specs.Places.{place_in}
@@ -124,38 +125,27 @@ module _ {N : Type 0} (k : ℕ) where
     head-holds None s h = h
     head-holds (Some x) s h = pushed-holds at _ s h
 
+  abbrev StateHolds : State N → Type 0
+  StateHolds s = Holds s.site
+
+  abbrev AgainHolds : Token N → State N → Type 0
+  AgainHolds t = StateHolds
+
   abbrev KeepsFlow : Flow N → Type 0
-  KeepsFlow (Done s) = Holds s.site
-  KeepsFlow (Again t s) = Holds s.site
-  KeepsFlow (Refused r) = Unit {0}
+  KeepsFlow = Comes StateHolds AgainHolds (λ r. Unit {0})
 
   on-site : (s : State N) (o : Outcome (SiteOf N)) → Keeps o → KeepsFlow (flow_of s o)
-  on-site s (Goes x) h = h
-  on-site s (site.Refused r) h = tt
-
-  flow-then : (f : Flow N) (g : State N → Flow N) → KeepsFlow f → ((s : State N) → Holds s.site → KeepsFlow (g s)) → KeepsFlow (flow_then f g)
-  flow-then (Done s) g h m = m s h
-  flow-then (Again t s) g h m = h
-  flow-then (Refused r) g h m = tt
-
-  flow-map : (v : Bool) (f : Flow N) → KeepsFlow f → KeepsFlow (flow_map (with_foster v) f)
-  flow-map v (Done s) h = h
-  flow-map v (Again t s) h = h
-  flow-map v (Refused r) h = tt
-
-  flow-each : (f : Placed → State N → Flow N) → ((c : Placed) (s : State N) → Holds s.site → KeepsFlow (f c s)) → (cs : List Placed) (s : State N) → Holds s.site → KeepsFlow (each_of f cs s)
-  flow-each f m [] s h = h
-  flow-each f m (c ∷ cs) s h = flow-then (f c s) (each_of f cs) (m c s h) (λ u g. flow-each f m cs u g)
+  on-site = comes-site StateHolds AgainHolds (λ r. Unit {0})
 
   module _ (n : Naming N) where
     perform-holds : (p : Do) (at : ℕ) (t : Token N) (s : State N) → Holds s.site → KeepsFlow (perform n at t p s)
-    perform-holds (p ▸ q) at t s h = flow-then (perform n at t p s) (perform n at t q) (perform-holds p at t s h) (λ u m. perform-holds q at t u m)
+    perform-holds (p ▸ q) at t s h = comes-then StateHolds StateHolds AgainHolds (λ r. Unit {0}) (perform n at t p s) (perform n at t q) (perform-holds p at t s h) (perform-holds q at t)
     perform-holds (when question p) at t s h = cond_both (answer_of n t question s) (perform n at t p s) (Done s) KeepsFlow (λ _. perform-holds p at t s h) (λ _. h)
     perform-holds (unless question p) at t s h = cond_both (answer_of n t question s) (Done s) (perform n at t p s) KeepsFlow (λ _. h) (λ _. perform-holds p at t s h)
     perform-holds (choose question p q) at t s h = cond_both (answer_of n t question s) (perform n at t p s) (perform n at t q s) KeepsFlow (λ _. perform-holds p at t s h) (λ _. perform-holds q at t s h)
-    perform-holds (fostered p) at t s h = flow-map false (perform n at t p (with_foster true s)) (perform-holds p at t (with_foster true s) h)
+    perform-holds (fostered p) at t s h = comes-map StateHolds AgainHolds (λ r. Unit {0}) (with_foster false) (λ u g. g) (λ u v g. g) (perform n at t p (with_foster true s)) (perform-holds p at t (with_foster true s) h)
     perform-holds (each_pending p) at t s h =
-        flow-each (λ c. perform n c.at (character c.ch) p) (λ c u m. perform-holds p c.at (character c.ch) u m) s.control.pending (with_control (record s.control { pending = [] }) s) h
+        comes-each StateHolds AgainHolds (λ r. Unit {0}) (λ c. perform n c.at (character c.ch) p) (λ c u m. perform-holds p c.at (character c.ch) u m) s.control.pending (with_control (record s.control { pending = [] }) s) h
     perform-holds insert at t s h = on-site s _ (inserted-holds at (token_name n t) (token_attrs t) (place n s.site) s.site h)
     perform-holds (insert_named x) at t s h = on-site s _ (inserted-holds at (n.known x) [] (place n s.site) s.site h)
     perform-holds insert_root at t s h = on-site s _ (inserted-holds at (token_name n t) (token_attrs t) (LastIn 0) s.site h)

@@ -4,6 +4,7 @@ use Rattle.hadopt.specs.Site as site
 use Rattle.hadopt.proofs.Lists.{each-both, each-among}
 use Rattle.hmodes.proofs.Stands.{FlowWell}
 use Rattle.hmodes.proofs.Facts.{is_early, is_texty, Late}
+use Rattle.hmodes.proofs.Programs.{Comes}
 use Rattle.hmodes.proofs.Heads.{Steady, steady-then}
 
 module _ {N : Type 0} where
@@ -32,9 +33,7 @@ module _ {N : Type 0} where
   HeadFacts s = Facts s.control.mode s.control.saved s.control.head (stack s.site) (trees s.site)
 
   abbrev pub FlowFacts : Flow N → Type 0
-  FlowFacts (Done s) = HeadFacts s
-  FlowFacts (Again t s) = HeadFacts s
-  FlowFacts (Refused r) = Unit {0}
+  FlowFacts = Comes HeadFacts (λ t. HeadFacts) (λ r. Unit {0})
 
   pub late-knows : (m : Mode) (hp : Option ℕ) (open_now : List (OpenNode N)) (f : Forest N) → is_early m ≡ false → Knows m hp open_now f
   late-knows InHead hp open_now f e = cc
@@ -42,8 +41,8 @@ module _ {N : Type 0} where
   late-knows AfterHead hp open_now f e = cc
   late-knows _ hp open_now f e = tt
 
-  pub late-facts : (s : State N) → Late false s.control → HeadFacts s
-  late-facts s l = go s.control.mode s.control.saved l.mode l.texty
+  pub late-facts : (s : State N) → Late s.control → HeadFacts s
+  late-facts s l = go s.control.mode s.control.saved l.mode l.sound
     where
       go : (m v : Mode) → is_early m ≡ false → (is_texty m ≡ true → is_early v ≡ false) → Facts m v s.control.head (stack s.site) (trees s.site)
       go Text v e k = late-knows v s.control.head (drop 1 (stack s.site)) (trees s.site) (k refl)

@@ -1,5 +1,5 @@
 -- Every rule keeps what its mode knows of the head.
-use Rattle.hmodes.proofs.Vocabulary.{Forest, by_test, Mode, InTableText, kind_of, rule_of, Rule, in_table_text, ◌≡◌, ◌≢◌, ℕ, ◌<◌, Bool, true, false, cond, leb, List, [], ◌∷◌, Option, Some, None, refl, sym, ◌∙◌, ap, subst, arith, drop, length, ◌&&◌, eq-eqb, ne_eqb, Attribute, element, LastIn, OpenNode, Refusal, TooDeep, Naming, Goes, SiteOf, stack, trees, with_stack, with_error, from_top, open_node, place, inserted, Each, Pairs, TellsTables, deep, deep-there, OnGoes, Well, erred, inserted-well, place-fits, BeforeHead, InHead, InHeadNoscript, AfterHead, InBody, Text, TokenKind, Nul, Ws, Char, Comment, Doctype, Start, End, Eof, Do, ◌▸◌, nothing, again, error, to, save_mode, to_saved, head_pointer, insert, insert_named, insert_comment, put, pop, push_head, remove_head, add_missing_to_first, Token, State, Flow, Done, Again, Refused, flow_then, token_name, token_attrs, token_text, token_char, void, raw, html_again, mode_error, before_head, head_unwritten, in_head, head_ends, in_head_noscript, noscript_ends, after_head, body_unwritten, late, text, perform, with_site, flow_of, current_node, head_pushed, removed}
+use Rattle.hmodes.proofs.Vocabulary.{Forest, by_test, Mode, InTableText, kind_of, rule_of, Rule, ◌≡◌, ◌≢◌, ℕ, ◌<◌, Bool, true, false, cond, leb, List, [], ◌∷◌, Option, Some, None, refl, sym, ◌∙◌, ap, subst, arith, drop, length, ◌&&◌, eq-eqb, ne_eqb, Attribute, element, LastIn, OpenNode, Refusal, TooDeep, Naming, Goes, SiteOf, stack, trees, with_stack, with_error, from_top, open_node, place, inserted, Each, Pairs, TellsTables, deep, deep-there, OnGoes, Well, erred, inserted-well, place-fits, BeforeHead, InHead, InHeadNoscript, AfterHead, InBody, Text, TokenKind, Ws, Start, End, Do, ◌▸◌, nothing, again, error, to, save_mode, to_saved, head_pointer, insert, insert_named, insert_comment, put, pop, push_head, remove_head, add_missing_to_first, Token, State, Flow, Done, Again, Refused, flow_then, token_name, token_attrs, token_text, token_char, void, raw, html_again, mode_error, before_head, head_unwritten, in_head, head_ends, in_head_noscript, noscript_ends, after_head, body_unwritten, late, text, perform, with_site, flow_of, current_node, head_pushed, removed}
 use Rattle.hnodes.specs.Forest as forest
 use Rattle.names.specs.declared.tag.Tag.TheVariants as tag
 use Rattle.hadopt.specs.Site as site
@@ -7,7 +7,8 @@ use Rattle.hmodes.specs.declared.family.Family.TheVariants as family
 use Rattle.hmodes.proofs.Every.{never, both, by_outcome}
 use Rattle.hmodes.proofs.Stands.{tame, perform-well}
 use Rattle.hmodes.proofs.Heads.{Steady, steady-same, steady-then, added-steady, Deeper, inserted-steady, put-steady, missing-steady}
-use Rattle.hmodes.proofs.Facts.{is_early, is_texty, Late, less-late, lates, leaves, FlowLate, perform-late, lates-rule}
+use Rattle.hmodes.proofs.Facts.{is_early, is_texty, Late, is_late_rule, late-rule, perform-late}
+use Rattle.hmodes.proofs.Programs.{comes-less}
 use Rattle.hmodes.proofs.HeadFacts.{late-facts, IsAt, OutOf, Knows, Facts, HeadFacts, FlowFacts, knows-steady, out-steady, FlowQuiet, quiet-flow, on-quiet, quiet-then}
 
 -- what leaves modes, head pointer and open nodes as they are
@@ -23,88 +24,37 @@ quiet _ = false
 quiet-tame : (p : Do) → quiet p ≡ true → tame false p ≡ true
 quiet-tame (p ▸ q) e = let parts = both (quiet p) (quiet q) e in rw (quiet-tame p parts.0, quiet-tame q parts.1) refl
 quiet-tame nothing e = refl
-quiet-tame put e = refl
-quiet-tame (error m) e = refl
-quiet-tame insert_comment e = refl
-quiet-tame add_missing_to_first e = refl
-quiet-tame _ e = never e
+quiet-tame _ e = cc
 
 -- what holds of the programs of a mode's rules holds of each rule
-module _ (P : Do → Type 0) (quietly : (p : Do) → quiet p ≡ true → P p) where
-  in-head-cases : P void → P raw → P (insert ▸ to InHeadNoscript) → P (pop ▸ to AfterHead) → P head_ends → (k : TokenKind) → P (in_head k)
-  in-head-cases v r noscript close end Ws = quietly put refl
-  in-head-cases v r noscript close end Comment = quietly insert_comment refl
-  in-head-cases v r noscript close end Doctype = quietly (error InHead) refl
-  in-head-cases v r noscript close end (Start family.Html) = quietly html_again refl
-  in-head-cases v r noscript close end (Start family.Base) = v
-  in-head-cases v r noscript close end (Start family.HeadVoid) = v
-  in-head-cases v r noscript close end (Start family.Title) = r
-  in-head-cases v r noscript close end (Start family.Noframes) = r
-  in-head-cases v r noscript close end (Start family.Style) = r
-  in-head-cases v r noscript close end (Start family.Script) = r
-  in-head-cases v r noscript close end (Start family.Noscript) = noscript
-  in-head-cases v r noscript close end (Start family.Head) = quietly (error InHead) refl
-  in-head-cases v r noscript close end (End family.Head) = close
-  in-head-cases v r noscript close end (End family.Body) = end
-  in-head-cases v r noscript close end (End family.Html) = end
-  in-head-cases v r noscript close end (End family.Br) = end
-  in-head-cases v r noscript close end (End _) = quietly (error InHead) refl
-  in-head-cases v r noscript close end _ = end
+module _ (P : Do → Type 0) where
+  in-head-cases : P put → P insert_comment → P (error InHead) → P html_again → P void → P raw → P (insert ▸ to InHeadNoscript) → P (pop ▸ to AfterHead) → P head_ends → (k : TokenKind) → P (in_head k)
+  in-head-cases p c e h v r noscript close end Ws = p
+  in-head-cases p c e h v r noscript close end (Start family.Html) = h
+  in-head-cases p c e h v r noscript close end (End family.Head) = close
+  in-head-cases p c e h v r noscript close end _ = assumption
 
-  noscript-cases : P void → P raw → P (pop ▸ to InHead) → P noscript_ends → (k : TokenKind) → P (in_head_noscript k)
-  noscript-cases v r close end Doctype = quietly (error InHeadNoscript) refl
-  noscript-cases v r close end (Start family.Html) = quietly html_again refl
-  noscript-cases v r close end (End family.Noscript) = close
-  noscript-cases v r close end Ws = quietly put refl
-  noscript-cases v r close end Comment = quietly insert_comment refl
-  noscript-cases v r close end (Start family.HeadVoid) = v
-  noscript-cases v r close end (Start family.Noframes) = r
-  noscript-cases v r close end (Start family.Style) = r
-  noscript-cases v r close end (End family.Br) = end
-  noscript-cases v r close end (Start family.Head) = quietly (error InHeadNoscript) refl
-  noscript-cases v r close end (Start family.Noscript) = quietly (error InHeadNoscript) refl
-  noscript-cases v r close end (End _) = quietly (error InHeadNoscript) refl
-  noscript-cases v r close end _ = end
+  noscript-cases : P put → P insert_comment → P (error InHeadNoscript) → P html_again → P void → P raw → P (pop ▸ to InHead) → P noscript_ends → (k : TokenKind) → P (in_head_noscript k)
+  noscript-cases p c e h v r close end Ws = p
+  noscript-cases p c e h v r close end (Start family.Html) = h
+  noscript-cases p c e h v r close end (End family.Noscript) = close
+  noscript-cases p c e h v r close end _ = assumption
 
-  text-cases : P (error Text ▸ pop ▸ to_saved ▸ again) → P (pop ▸ to_saved) → (k : TokenKind) → P (text k)
-  text-cases unended end Nul = quietly put refl
-  text-cases unended end Ws = quietly put refl
-  text-cases unended end Char = quietly put refl
-  text-cases unended end Eof = unended
-  text-cases unended end (End _) = end
-  text-cases unended end _ = quietly (error Text) refl
+  text-cases : P put → P (error Text) → P (error Text ▸ pop ▸ to_saved ▸ again) → P (pop ▸ to_saved) → (k : TokenKind) → P (text k)
+  text-cases p e unended end Ws = p
+  text-cases p e unended end _ = assumption
 
-  after-head-cases : P (insert ▸ to InBody) → P (late void) → P (late raw) → P body_unwritten → (k : TokenKind) → P (after_head k)
-  after-head-cases body v r unwritten Ws = quietly put refl
-  after-head-cases body v r unwritten Comment = quietly insert_comment refl
-  after-head-cases body v r unwritten Doctype = quietly (error AfterHead) refl
-  after-head-cases body v r unwritten (Start family.Html) = quietly html_again refl
-  after-head-cases body v r unwritten (Start family.Body) = body
-  after-head-cases body v r unwritten (Start family.Base) = v
-  after-head-cases body v r unwritten (Start family.HeadVoid) = v
-  after-head-cases body v r unwritten (Start family.Noframes) = r
-  after-head-cases body v r unwritten (Start family.Script) = r
-  after-head-cases body v r unwritten (Start family.Style) = r
-  after-head-cases body v r unwritten (Start family.Title) = r
-  after-head-cases body v r unwritten (Start family.Head) = quietly (error AfterHead) refl
-  after-head-cases body v r unwritten (End family.Body) = unwritten
-  after-head-cases body v r unwritten (End family.Html) = unwritten
-  after-head-cases body v r unwritten (End family.Br) = unwritten
-  after-head-cases body v r unwritten (End _) = quietly (error AfterHead) refl
-  after-head-cases body v r unwritten _ = unwritten
+  after-head-cases : P put → P insert_comment → P (error AfterHead) → P html_again → P (insert ▸ to InBody) → P (late void) → P (late raw) → P body_unwritten → (k : TokenKind) → P (after_head k)
+  after-head-cases p c e h body v r unwritten Ws = p
+  after-head-cases p c e h body v r unwritten (Start family.Html) = h
+  after-head-cases p c e h body v r unwritten (End family.Body) = unwritten
+  after-head-cases p c e h body v r unwritten _ = assumption
 
-  before-head-cases : P (insert ▸ head_pointer ▸ to InHead) → P head_unwritten → (k : TokenKind) → P (before_head k)
-  before-head-cases head unwritten Ws = quietly nothing refl
-  before-head-cases head unwritten Comment = quietly insert_comment refl
-  before-head-cases head unwritten Doctype = quietly (error BeforeHead) refl
-  before-head-cases head unwritten (Start family.Html) = quietly html_again refl
-  before-head-cases head unwritten (Start family.Head) = head
-  before-head-cases head unwritten (End family.Head) = unwritten
-  before-head-cases head unwritten (End family.Body) = unwritten
-  before-head-cases head unwritten (End family.Html) = unwritten
-  before-head-cases head unwritten (End family.Br) = unwritten
-  before-head-cases head unwritten (End _) = quietly (error BeforeHead) refl
-  before-head-cases head unwritten _ = unwritten
+  before-head-cases : P nothing → P insert_comment → P (error BeforeHead) → P html_again → P (insert ▸ head_pointer ▸ to InHead) → P head_unwritten → (k : TokenKind) → P (before_head k)
+  before-head-cases none c e h head unwritten Ws = none
+  before-head-cases none c e h head unwritten (Start family.Html) = h
+  before-head-cases none c e h head unwritten (End family.Head) = unwritten
+  before-head-cases none c e h head unwritten _ = assumption
 
 module _ {N : Type 0} (n : Naming N) (tells : TellsTables n) (at : ℕ) (t : Token N) where
   perform-quiet : (p : Do) → quiet p ≡ true → (s : State N) → Well n s.site → FlowQuiet n s (perform n at t p s)
@@ -166,16 +116,18 @@ module _ {N : Type 0} (n : Naming N) (tells : TellsTables n) (at : ℕ) (t : Tok
   -- by the rules of the head
   pub in-head-rule : (k : TokenKind) (s : State N) → s.control.mode ≡ InHead → Well n s.site → IsAt s.control.head (stack s.site) → HeadFacts s → FlowFacts (perform n at t (in_head k) s)
   in-head-rule k s is w o f =
-      in-head-cases (λ p. FlowFacts (perform n at t p s)) (λ p e. by-quiet p e s w f) (quiet-flow n s (perform n at t void s) w (void-quiet s w) f) (raw-facts s w (rw is o))
+      let q : (p : Do) → quiet p ≡ true → FlowFacts (perform n at t p s) = λ p e. by-quiet p e s w f in
+      in-head-cases (λ p. FlowFacts (perform n at t p s)) (q put refl) (q insert_comment refl) (q (error InHead) refl) (q html_again refl) (quiet-flow n s (perform n at t void s) w (void-quiet s w) f) (raw-facts s w (rw is o))
       (noscript-facts s w o) (pop-out s.control.head s.site w o) (pop-out s.control.head s.site w o) k
 
   pub noscript-rule : (k : TokenKind) (s : State N) → s.control.mode ≡ InHeadNoscript → Well n s.site → IsAt s.control.head (drop 1 (stack s.site)) → HeadFacts s → FlowFacts (perform n at t (in_head_noscript k) s)
   noscript-rule k s is w o f =
-      noscript-cases (λ p. FlowFacts (perform n at t p s)) (λ p e. by-quiet p e s w f) (quiet-flow n s (perform n at t void s) w (void-quiet s w) f) (raw-facts s w (rw is o)) o o k
+      let q : (p : Do) → quiet p ≡ true → FlowFacts (perform n at t p s) = λ p e. by-quiet p e s w f in
+      noscript-cases (λ p. FlowFacts (perform n at t p s)) (q put refl) (q insert_comment refl) (q (error InHeadNoscript) refl) (q html_again refl) (quiet-flow n s (perform n at t void s) w (void-quiet s w) f) (raw-facts s w (rw is o)) o o k
 
   -- text whose saved mode is one of the head's
   pub text-rule : (k : TokenKind) (s : State N) → s.control.mode ≡ Text → Well n s.site → Facts s.control.saved s.control.saved s.control.head (drop 1 (stack s.site)) (trees s.site) → HeadFacts s → FlowFacts (perform n at t (text k) s)
-  text-rule k s is w o f = text-cases (λ p. FlowFacts (perform n at t p s)) (λ p e. by-quiet p e s w f) o o k
+  text-rule k s is w o f = text-cases (λ p. FlowFacts (perform n at t p s)) (by-quiet put refl s w f) (by-quiet (error Text) refl s w f) o o k
 
   -- the head, where it is set, on top of the open nodes
   abbrev with_head : Option ℕ → List (OpenNode N) → List (OpenNode N)
@@ -237,10 +189,13 @@ module _ {N : Type 0} (n : Naming N) (tells : TellsTables n) (at : ℕ) (t : Tok
 
     pub after-head-rule : (k : TokenKind) → HeadFacts s → FlowFacts (perform n at t (after_head k) s)
     after-head-rule k f =
-        after-head-cases (λ p. FlowFacts (perform n at t p s)) (λ p e. by-quiet p e s w f) (body-facts s w) late-void late-raw (unwritten-facts s w) k
+        let q : (p : Do) → quiet p ≡ true → FlowFacts (perform n at t p s) = λ p e. by-quiet p e s w f in
+        after-head-cases (λ p. FlowFacts (perform n at t p s)) (q put refl) (q insert_comment refl) (q (error AfterHead) refl) (q html_again refl) (body-facts s w) late-void late-raw (unwritten-facts s w) k
 
   pub before-head-rule : (k : TokenKind) (s : State N) → Well n s.site → HeadFacts s → FlowFacts (perform n at t (before_head k) s)
-  before-head-rule k s w f = before-head-cases (λ p. FlowFacts (perform n at t p s)) (λ p e. by-quiet p e s w f) (head-facts s w) (head-unwritten-facts s w) k
+  before-head-rule k s w f =
+      let q : (p : Do) → quiet p ≡ true → FlowFacts (perform n at t p s) = λ p e. by-quiet p e s w f in
+      before-head-cases (λ p. FlowFacts (perform n at t p s)) (q nothing refl) (q insert_comment refl) (q (error BeforeHead) refl) (q html_again refl) (head-facts s w) (head-unwritten-facts s w) k
 
 -- by the rules of any mode
 module _ {N : Type 0} where
@@ -251,22 +206,11 @@ module _ {N : Type 0} where
   early-facts _ hp open_now f e k = never e
 
 module _ {N : Type 0} (n : Naming N) (tells : TellsTables n) where
-  flow-late : (b : Bool) (f : Flow N) → FlowLate n b f → FlowFacts f
-  flow-late b (Done s) l = late-facts s (less-late false b s.control (λ e. cc) l)
-  flow-late b (Again t s) l = late-facts s l
-  flow-late b (Refused r) l = tt
-
   module _ (at : ℕ) (t : Token N) (s : State N) (w : Well n s.site) (f : HeadFacts s) where
-    by-late : (b : Bool) (p : Do) → lates b p ≡ true → Late b s.control → FlowFacts (perform n at t p s)
-    by-late b p e l = flow-late (leaves b p) (perform n at t p s) (perform-late n b p e at t s l)
-
-    not-texty : (m : Mode) → s.control.mode ≡ m → is_texty m ≡ false → is_texty s.control.mode ≡ true → is_early s.control.saved ≡ false
-    not-texty m is e i = let clash = sym e ∙ subst (λ (k : Mode). is_texty k ≡ true) is i in cc
-
-    by-plain : (m : Mode) → s.control.mode ≡ m → is_early m ≡ false → is_texty m ≡ false → lates false (rule_of m (kind_of n t)) ≡ true
-        → FlowFacts (perform n at t (rule_of m (kind_of n t)) s)
-    by-plain m is early texty e =
-        by-late false (rule_of m (kind_of n t)) e (record { mode = subst (λ (k : Mode). is_early k ≡ false) (sym is) early; saved = λ i. never i; texty = not-texty m is texty })
+    by-late : (m : Mode) → is_late_rule m (kind_of n t) ≡ true → s.control.mode ≡ m → (is_texty m ≡ true → is_early s.control.saved ≡ false) → FlowFacts (perform n at t (rule_of m (kind_of n t)) s)
+    by-late m e is saved =
+        comes-less (λ u. Late u.control) HeadFacts (λ u v. Late v.control) (λ u. HeadFacts) (λ r. Unit {0}) late-facts (λ u. late-facts) (perform n at t (rule_of m (kind_of n t)) s)
+        (perform-late n m (kind_of n t) e at t s is saved)
 
     pub rule-facts : FlowFacts (Rule n at t s)
     rule-facts = by-mode s.control.mode refl f
@@ -276,6 +220,6 @@ module _ {N : Type 0} (n : Naming N) (tells : TellsTables n) where
         by-mode InHead is g = in-head-rule n tells at t (kind_of n t) s is w g f
         by-mode InHeadNoscript is g = noscript-rule n tells at t (kind_of n t) s is w g f
         by-mode AfterHead is g = after-head-rule n tells at t s is w g (kind_of n t) f
-        by-mode Text is g = by_test (is_early s.control.saved) (λ v. FlowFacts (perform n at t (text (kind_of n t)) s)) (λ e. text-rule n tells at t (kind_of n t) s is w (early-facts s.control.saved s.control.head (drop 1 (stack s.site)) (trees s.site) e g) f) (λ e. by-late true (text (kind_of n t)) (lates-rule Text (kind_of n t)) (record { mode = rw is refl; saved = λ i. e; texty = λ i. e }))
-        by-mode InTableText is g = by-late true (in_table_text (kind_of n t)) (lates-rule InTableText (kind_of n t)) (record { mode = rw is refl; saved = λ i. g; texty = λ i. g })
-        by-mode m is g = by-plain m is refl refl (lates-rule m (kind_of n t))
+        by-mode Text is g = by_test (is_early s.control.saved) (λ v. FlowFacts (perform n at t (text (kind_of n t)) s)) (λ e. text-rule n tells at t (kind_of n t) s is w (early-facts s.control.saved s.control.head (drop 1 (stack s.site)) (trees s.site) e g) f) (λ e. by-late Text (late-rule Text (kind_of n t)) is (λ i. e))
+        by-mode InTableText is g = by-late InTableText (late-rule InTableText (kind_of n t)) is (λ i. g)
+        by-mode m is g = by-late m (late-rule m (kind_of n t)) is (λ i. never i)

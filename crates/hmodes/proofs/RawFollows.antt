@@ -1,5 +1,5 @@
 -- A start tag of a raw kind leads to the mode "text", by a test on the programs of each mode.
-use Rattle.hmodes.proofs.Vocabulary.{cond_both, ◌≡◌, ◌≢◌, ◌⊎◌, inl, inr, ℕ, ◌<◌, Bool, true, false, not, cond, leb, List, ◌∷◌, Option, Some, None, refl, sym, ◌∙◌, ap, subst, arith, length, ◌&&◌, ◌||◌, IfSome, ne_eqb, Attribute, OpenNode, current, TooManyNodes, TooDeep, Tag, Naming, Outcome, Goes, SiteOf, and_then, stack, trees, with_stack, with_trees, with_error, OnGoes, Family, Mode, AfterHead, Text, InTableText, family_of, Do, Start, Char, ◌▸◌, choose, fostered, each_pending, again, to, to_saved, save_mode, insert, put, drop_lf, push_head, remove_head, pending_is_ws, raw, after_head, late, perform, with_foster, with_site, inserted_here, flow_of, head_pushed, removed, rule_of, mode_error, NonVoidHtmlElementStartTagWithTrailingSolidus, Token, start, Control, State, Flow, Done, Again, Refused, flow_then, flow_map, Rule, Chain, ends, refuses, goes_again, drops, goes, step_begun, finished, is_ended, IsLimit, Inserts, at_once, in_first, in_second, in_fostered, RulesInsert, by_rule, by_next, IsInText, ComesToText, RawFollows, Place, element, graft, make, place, inserted, with_open, in_table_text, other_in_table}
+use Rattle.hmodes.proofs.Vocabulary.{cond_both, ◌≡◌, ◌≢◌, ◌⊎◌, inl, inr, ℕ, ◌<◌, Bool, true, false, not, cond, leb, List, ◌∷◌, Option, Some, None, refl, sym, ◌∙◌, ap, subst, arith, length, ◌&&◌, ◌||◌, IfSome, ne_eqb, Attribute, OpenNode, current, TooManyNodes, TooDeep, Tag, Naming, Outcome, Goes, SiteOf, and_then, stack, trees, with_stack, with_trees, with_error, OnGoes, Family, Mode, AfterHead, Text, InTableText, family_of, Do, Start, Char, ◌▸◌, choose, fostered, each_pending, again, TokenKind, to, to_saved, save_mode, insert, put, drop_lf, push_head, remove_head, pending_is_ws, raw, after_head, late, perform, with_foster, with_site, inserted_here, flow_of, head_pushed, removed, rule_of, mode_error, NonVoidHtmlElementStartTagWithTrailingSolidus, Token, start, Control, State, Flow, Done, Again, Refused, flow_then, flow_map, Rule, Chain, ends, refuses, goes_again, drops, goes, step_begun, finished, is_ended, IsLimit, Inserts, at_once, in_first, in_second, in_fostered, RulesInsert, by_rule, by_next, IsInText, ComesToText, RawFollows, Place, element, graft, make, place, inserted, with_open, in_table_text, other_in_table}
 use Rattle.names.specs.Sets.{raw_kind}
 use Rattle.names.specs.declared.tag.Tag.TheVariants as tag
 use Rattle.hadopt.specs.Site as site
@@ -7,7 +7,7 @@ use Rattle.hmodes.specs.declared.family.Family.TheVariants.{Title, Noframes, Sty
 use Rattle.hmodes.proofs.Mild.{is_mild, Mild, perform-mild}
 use Rattle.hmodes.proofs.Facts.{is_texty}
 use Rattle.hmodes.proofs.Between.{Tells, Orderly, orderly-head, orderly-begins, again-orderly, reached-orderly}
-use Rattle.hmodes.proofs.Every.{never, both, by_outcome}
+use Rattle.hmodes.proofs.Every.{never, both, other, in-each, by_outcome}
 
 -- the programs that insert an element and go to text, at once or after others, or have the token go by rules outside of text
 
@@ -46,48 +46,19 @@ is_raw_family _ = false
 
 raw-family : (t : Tag) → is_ended (raw_kind t) ≡ true → is_raw_family (family_of t) ≡ true
 raw-family tag.Title e = refl
-raw-family tag.Textarea e = refl
-raw-family tag.Style e = refl
-raw-family tag.Xmp e = refl
-raw-family tag.Iframe e = refl
-raw-family tag.Noembed e = refl
-raw-family tag.Noframes e = refl
-raw-family tag.Script e = refl
-raw-family _ e = never e
-
-abbrev for_all : (Family → Bool) → Bool
-for_all f = f Title && (f Noframes && (f Style && (f Script && (f Textarea && (f Xmp && f Iframe)))))
-
-for-one : (f : Family → Bool) (x : Family) → for_all f ≡ true → is_raw_family x ≡ true → f x ≡ true
-for-one f x all is =
-    let title = both (f Title) (f Noframes && (f Style && (f Script && (f Textarea && (f Xmp && f Iframe))))) all in
-    let noframes = both (f Noframes) (f Style && (f Script && (f Textarea && (f Xmp && f Iframe)))) title.1 in
-    let style = both (f Style) (f Script && (f Textarea && (f Xmp && f Iframe))) noframes.1 in
-    let script = both (f Script) (f Textarea && (f Xmp && f Iframe)) style.1 in
-    let textarea = both (f Textarea) (f Xmp && f Iframe) script.1 in
-    let xmp = both (f Xmp) (f Iframe) textarea.1 in
-    pick x is title.0 noframes.0 style.0 script.0 textarea.0 xmp.0 xmp.1
-  where
-    pick : (x : Family) → is_raw_family x ≡ true → f Title ≡ true → f Noframes ≡ true → f Style ≡ true → f Script ≡ true → f Textarea ≡ true → f Xmp ≡ true → f Iframe ≡ true → f x ≡ true
-    pick Title e title noframes style script textarea xmp iframe = title
-    pick Noframes e title noframes style script textarea xmp iframe = noframes
-    pick Style e title noframes style script textarea xmp iframe = style
-    pick Script e title noframes style script textarea xmp iframe = script
-    pick Textarea e title noframes style script textarea xmp iframe = textarea
-    pick Xmp e title noframes style script textarea xmp iframe = xmp
-    pick Iframe e title noframes style script textarea xmp iframe = iframe
-    pick _ e title noframes style script textarea xmp iframe = never e
+raw-family _ e = cc
 
 -- the rules of a mode, but those of what belongs in the head, after it, and those of text
 abbrev is_ruled : Mode → Bool
 is_ruled AfterHead = false
 is_ruled m = is_outside m
 
-ruled-leads : (m : Mode) → is_ruled m ≡ true → for_all (λ f. leads (rule_of m (Start f))) ≡ true
-ruled-leads Text e = never e
-ruled-leads InTableText e = never e
-ruled-leads AfterHead e = never e
-ruled-leads m e = refl
+abbrev ruled : Mode → TokenKind → Bool
+ruled m (Start f) = not (is_ruled m && is_raw_family f) || leads (rule_of m (Start f))
+ruled m k = true
+
+ruled-leads : (m : Mode) (k : TokenKind) → ruled m k ≡ true
+ruled-leads = in-each ruled refl
 
 raw-is : (p : Do) → is_raw p ≡ true → p ≡ raw
 raw-is (insert ▸ (save_mode ▸ to Text)) e = refl
@@ -273,14 +244,17 @@ module _ {N : Type 0} (n : Naming N) (at : ℕ) (name : N) (attrs : List (Attrib
       family_is : is_raw_family (family_of (n.tag name)) ≡ true
       family_is = raw-family (n.tag name) ended
 
-      ruled : (m : Mode) → is_ruled m ≡ true → LeadsBy s0 (rule_of m (Start (family_of (n.tag name)))) s
-      ruled m e = perform-leads (rule_of m (Start (family_of (n.tag name)))) (for-one (λ f. leads (rule_of m (Start f))) (family_of (n.tag name)) (ruled-leads m e) family_is) s0 s
+      by_rules : (m : Mode) → is_ruled m ≡ true → LeadsBy s0 (rule_of m (Start (family_of (n.tag name)))) s
+      by_rules m e =
+          let f : Family = family_of (n.tag name) in
+          let so : (is_ruled m && is_raw_family f) ≡ true = rw (e, family_is) refl in
+          perform-leads (rule_of m (Start f)) (other (not (is_ruled m && is_raw_family f)) (leads (rule_of m (Start f))) (ruled-leads m (Start f)) (ap not so)) s0 s
 
       by_mode : (m : Mode) → s.control.mode ≡ m → LeadsBy s0 (rule_of m (Start (family_of (n.tag name)))) s
       by_mode Text is = absurd (out.mode is)
       by_mode InTableText is = table-text-leads (family_of (n.tag name)) s0 s (out.saved is)
       by_mode AfterHead is = after-head-leads (family_of (n.tag name)) family_is s0 s (below is)
-      by_mode m is = ruled m refl
+      by_mode m is = by_rules m refl
 
 module _ {N : Type 0} (n : Naming N) (tells : Tells n) (at : ℕ) (name : N) (attrs : List (Attribute N)) (closing : Bool) (ended : is_ended (raw_kind (n.tag name)) ≡ true) where
   finished-text : (s0 s : State N) → IsInText n at name attrs closing s0 s → IsInText n at name attrs closing s0 (finished at (start name attrs closing) s)

@@ -1,5 +1,5 @@
 -- The mode that fits the open nodes, found by the nearest one that determines it.
-use Rattle.hmodes.proofs.Vocabulary.{◌≡◌, ℕ, ◌-◌, Bool, true, false, cond, List, [], ◌∷◌, length, reverse, Option, Some, None, unwrap_or, refl, sym, ap, ◌∙◌, slice_get, option_map_or, OpenNode, is_of, tells_mode, Tag, true≢false, false≢true, numbers, open_mode, root_mode, reset_mode, Mode, InBody}
+use Rattle.hmodes.proofs.Vocabulary.{◌≡◌, ℕ, ◌-◌, Bool, true, false, cond, List, [], ◌∷◌, length, reverse, Option, Some, None, unwrap_or, refl, sym, ap, ◌∙◌, slice_get, option_map_or, OpenNode, is_of, tells_mode, Tag, true≢false, numbers, open_mode, root_mode, reset_mode, Mode, InBody}
 use Rattle.std.proofs.Common.{take}
 use Rattle.std.specs.List.{find}
 use native.Mathlib.Numerals.{unary_clauses}
@@ -17,29 +17,11 @@ tells = is_of tag_of group.TellsMode
 
 tells-none : (t : Tag) → tells_mode t ≡ false → open_mode t ≡ None
 tells-none tag.Body h = absurd (true≢false h)
-tells-none tag.Caption h = absurd (true≢false h)
-tells-none tag.Colgroup h = absurd (true≢false h)
-tells-none tag.Table h = absurd (true≢false h)
-tells-none tag.Tbody h = absurd (true≢false h)
-tells-none tag.Td h = absurd (true≢false h)
-tells-none tag.Tfoot h = absurd (true≢false h)
-tells-none tag.Th h = absurd (true≢false h)
-tells-none tag.Thead h = absurd (true≢false h)
-tells-none tag.Tr h = absurd (true≢false h)
-tells-none _ h = refl
+tells-none _ h = cc
 
 tells-some : (t : Tag) → tells_mode t ≡ true → (a b : Mode) → unwrap_or (open_mode t) a ≡ unwrap_or (open_mode t) b
 tells-some tag.Body h a b = refl
-tells-some tag.Caption h a b = refl
-tells-some tag.Colgroup h a b = refl
-tells-some tag.Table h a b = refl
-tells-some tag.Tbody h a b = refl
-tells-some tag.Td h a b = refl
-tells-some tag.Tfoot h a b = refl
-tells-some tag.Th h a b = refl
-tells-some tag.Thead h a b = refl
-tells-some tag.Tr h a b = refl
-tells-some _ h a b = absurd (false≢true h)
+tells-some _ h a b = cc
 
 -- an open node below the first one determines the mode
 pub reset-tokenizer_errors : (context : Option ℕ) (s : List (OpenNode ℕ)) (x : OpenNode ℕ) → find tells (take (length s - 1) s) ≡ Some x → reset_mode numbers context s ≡ unwrap_or (open_mode (tag_of x.name)) InBody

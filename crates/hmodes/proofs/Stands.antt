@@ -1,5 +1,5 @@
 -- Every rule keeps what the open nodes need: they are in the document's tree, each outside of those below it.
-use Rattle.hmodes.proofs.Vocabulary.{by_test, cond_both, ◌≡◌, ℕ, ◌<◌, Bool, true, false, not, cond, leb, List, [], ◌∷◌, Option, Some, None, refl, subst, length, filter, ◌&&◌, ◌||◌, ◌==◌, nat_le, option_map_or, list_any, element, LastIn, is_node, EntryOf, Listed, entry, cleared, find_entry, without_entry, with_room, without_earliest, is_equal, after_marker, most_equal, Placed, Tag, is_space, TooDeep, Naming, Outcome, Goes, SiteOf, stack, trees, with_stack, with_error, from_top, open_node, place, listed, is, adopted, Each, TellsTables, deep, OnGoes, goes-then, Plain, PlainEntries, plain-without, Well, among-past, among-drop, fewer, listed-as, erred, closed-well, other-well, adopted-well, missing-well, first-fits, here-fits, root-fits, place-fits, added-well, inserted-well, put-well, reconstructed-well, Mode, AfterHead, family_of, TokenKind, Nul, Ws, Char, Start, Do, ◌▸◌, when, unless, choose, fostered, each_pending, error, insert, insert_named, insert_root, insert_root_named, insert_comment, comment_in_document, comment_in_first, insert_doctype, put, add_missing_to_first, add_missing_to_second, pop, pop_to, pop_to_name, pop_to_group, implied, implied_except, implied_except_name, clear_to_table, clear_to_body, clear_to_row, push_head, remove_head, remove_form, reconstruct, push_to_list, clear_to_marker, close_p, adopt, adopt_listed, other_end, Token, character, start, State, Flow, Done, Again, Refused, kind_of, flow_then, flow_map, token_name, token_attrs, token_text, token_char, answer_of, doctype_node, perform, with_foster, with_control, with_site, each_of, flow_of, removed, forgotten, current_node, adopted_listed, head_pushed, rule_of, mode_error, Rule, in_head, after_head, late}
+use Rattle.hmodes.proofs.Vocabulary.{by_test, cond_both, ◌≡◌, ℕ, ◌<◌, Bool, true, false, not, cond, leb, List, [], ◌∷◌, Option, Some, None, refl, subst, length, filter, ◌&&◌, ◌||◌, ◌==◌, nat_le, option_map_or, list_any, element, LastIn, is_node, EntryOf, Listed, entry, cleared, find_entry, without_entry, with_room, without_earliest, is_equal, after_marker, most_equal, Tag, is_space, TooDeep, Naming, Outcome, Goes, SiteOf, stack, trees, with_stack, with_error, from_top, open_node, place, listed, is, adopted, Each, TellsTables, deep, OnGoes, goes-then, Plain, PlainEntries, plain-without, Well, among-past, among-drop, fewer, listed-as, erred, closed-well, other-well, adopted-well, missing-well, first-fits, here-fits, root-fits, place-fits, added-well, inserted-well, put-well, reconstructed-well, Mode, AfterHead, family_of, TokenKind, Nul, Ws, Char, Start, Do, ◌▸◌, error, insert, insert_named, insert_root, insert_root_named, insert_comment, comment_in_document, comment_in_first, insert_doctype, put, add_missing_to_first, add_missing_to_second, pop, pop_to, pop_to_name, pop_to_group, implied, implied_except, implied_except_name, clear_to_table, clear_to_body, clear_to_row, push_head, remove_head, remove_form, reconstruct, push_to_list, clear_to_marker, close_p, adopt, adopt_listed, other_end, Token, character, start, State, Flow, kind_of, token_name, token_attrs, token_text, token_char, doctype_node, perform, with_site, flow_of, removed, forgotten, current_node, adopted_listed, head_pushed, rule_of, mode_error, Rule, in_head, after_head, late}
 use Rattle.hnodes.specs.Forest as forest
 use Rattle.hopen.specs.Formatting as list
 use Rattle.names.specs.declared.tag.Tag.TheVariants as tag
@@ -9,18 +9,16 @@ use Rattle.hadopt.proofs.Lists.{among-all, among-after, among-without}
 use Rattle.hmodes.specs.declared.family.Family.TheVariants as family
 use Rattle.hmodes.specs.Words.{marker}
 use Rattle.hmodes.proofs.Every.{never, both, in-each}
+use Rattle.hmodes.proofs.Programs.{Comes, comes-then, comes-site, each_word, is_word, perform-comes}
 
 -- a program opens the head again nowhere, and lists the current node only where it may
+abbrev tame_word : (may_list is_token : Bool) → Do → Bool
+tame_word v w push_head = false
+tame_word v w push_to_list = v && w
+tame_word v w _ = true
+
 abbrev pub tame : (may_list : Bool) → Do → Bool
-tame v (p ▸ q) = tame v p && tame v q
-tame v (when question p) = tame v p
-tame v (unless question p) = tame v p
-tame v (choose question p q) = tame v p && tame v q
-tame v (fostered p) = tame v p
-tame v (each_pending p) = tame false p
-tame v push_head = false
-tame v push_to_list = v
-tame v _ = true
+tame v = each_word (tame_word v) true
 
 -- the tags that are listed
 abbrev may_list : TokenKind → Bool
@@ -31,30 +29,13 @@ may_list _ = false
 
 module _ {N : Type 0} (n : Naming N) where
   abbrev pub FlowWell : Flow N → Type 0
-  FlowWell (Done s) = Well n s.site
-  FlowWell (Again t s) = Well n s.site
-  FlowWell (Refused r) = Unit {0}
+  FlowWell = Comes (λ s. Well n s.site) (λ t s. Well n s.site) (λ r. Unit {0})
 
   on-site : (s : State N) (o : Outcome (SiteOf N)) → OnGoes (Well n) o → FlowWell (flow_of s o)
-  on-site s (Goes x) h = h
-  on-site s (site.Refused r) h = tt
-
-  well-then : (f : Flow N) (g : State N → Flow N) → FlowWell f → ((s : State N) → Well n s.site → FlowWell (g s)) → FlowWell (flow_then f g)
-  well-then (Done s) g h k = k s h
-  well-then (Again t s) g h k = h
-  well-then (Refused r) g h k = tt
+  on-site = comes-site (λ s. Well n s.site) (λ t s. Well n s.site) (λ r. Unit {0})
 
   flagged : (v : Bool) (s : SiteOf N) → Well n s → Well n (record s { foster = v })
   flagged v s h = record { counted = h.counted; each = h.each; order = h.order; plain = h.plain }
-
-  well-map : (v : Bool) (f : Flow N) → FlowWell f → FlowWell (flow_map (with_foster v) f)
-  well-map v (Done s) h = flagged v s.site h
-  well-map v (Again t s) h = flagged v s.site h
-  well-map v (Refused r) h = tt
-
-  well-each : (f : Placed → State N → Flow N) → ((c : Placed) (s : State N) → Well n s.site → FlowWell (f c s)) → (cs : List Placed) (s : State N) → Well n s.site → FlowWell (each_of f cs s)
-  well-each f k [] s h = h
-  well-each f k (c ∷ cs) s h = well-then (f c s) (each_of f cs) (k c s h) (λ v m. well-each f k cs v m)
 
   removed-well : (o : Option ℕ) (s : SiteOf N) → Well n s → Well n (removed o s)
   removed-well None s h = fewer n s (stack s) (among-all (stack s)) h
@@ -87,50 +68,45 @@ module _ {N : Type 0} (n : Naming N) where
         go y k None = k
         go y k (Some e) = forgotten-well e.node y k
 
+    well-word : (v w : Bool) (p : Do) → is_word p ≡ true → tame_word v w p ≡ true → (at : ℕ) (t : Token N) → (v ≡ true → w ≡ true → Plain n (token_name n t)) → (s : State N) → Well n s.site → FlowWell (perform n at t p s)
+    well-word v w (error m) i calm at t name s h = erred n s.site _ at h
+    well-word v w insert i calm at t name s h = on-site s _ (inserted-well n at (token_name n t) (token_attrs t) (place n s.site) s.site h (place-fits n (element (token_name n t) (token_attrs t)) s.site h))
+    well-word v w (insert_named x) i calm at t name s h = on-site s _ (inserted-well n at (n.known x) [] (place n s.site) s.site h (place-fits n (element (n.known x) []) s.site h))
+    well-word v w insert_root i calm at t name s h = on-site s _ (inserted-well n at (token_name n t) (token_attrs t) (LastIn 0) s.site h (root-fits n (element (token_name n t) (token_attrs t)) s.site h))
+    well-word v w (insert_root_named x) i calm at t name s h = on-site s _ (inserted-well n at (n.known x) [] (LastIn 0) s.site h (root-fits n (element (n.known x) []) s.site h))
+    well-word v w insert_comment i calm at t name s h = on-site s _ (added-well n (forest.comment (token_text t)) s.site h (LastIn (current_node s.site)) (here-fits n (forest.comment (token_text t)) s.site h) at)
+    well-word v w comment_in_document i calm at t name s h = on-site s _ (added-well n (forest.comment (token_text t)) s.site h (LastIn 0) (root-fits n (forest.comment (token_text t)) s.site h) at)
+    well-word v w comment_in_first i calm at t name s h = on-site s _ (added-well n (forest.comment (token_text t)) s.site h (LastIn (open_node (from_top 0 s.site))) (first-fits n (forest.comment (token_text t)) s.site h) at)
+    well-word v w insert_doctype i calm at t name s h = on-site s _ (added-well n (doctype_node t) s.site h (LastIn 0) (root-fits n (doctype_node t) s.site h) at)
+    well-word v w put i calm at t name s h = on-site s _ (put-well n at (token_char t) (place n s.site) s.site h (place-fits n _ s.site h))
+    well-word v w add_missing_to_first i calm at t name s h = missing-well n (open_node (from_top 0 s.site)) (token_attrs t) s.site h
+    well-word v w add_missing_to_second i calm at t name s h = missing-well n (open_node (from_top 1 s.site)) (token_attrs t) s.site h
+    well-word v w pop i calm at t name s h = fewer n s.site _ (among-drop (stack s.site)) h
+    well-word v w (pop_to x) i calm at t name s h = fewer n s.site _ (among-after _ (stack s.site)) h
+    well-word v w pop_to_name i calm at t name s h = fewer n s.site _ (among-after _ (stack s.site)) h
+    well-word v w (pop_to_group group) i calm at t name s h = fewer n s.site _ (among-after _ (stack s.site)) h
+    well-word v w implied i calm at t name s h = fewer n s.site _ (among-past _ (stack s.site)) h
+    well-word v w (implied_except x) i calm at t name s h = fewer n s.site _ (among-past _ (stack s.site)) h
+    well-word v w implied_except_name i calm at t name s h = fewer n s.site _ (among-past _ (stack s.site)) h
+    well-word v w clear_to_table i calm at t name s h = fewer n s.site _ (among-past _ (stack s.site)) h
+    well-word v w clear_to_body i calm at t name s h = fewer n s.site _ (among-past _ (stack s.site)) h
+    well-word v w clear_to_row i calm at t name s h = fewer n s.site _ (among-past _ (stack s.site)) h
+    well-word v w remove_head i calm at t name s h = removed-well s.control.head s.site h
+    well-word v w remove_form i calm at t name s h = removed-well s.control.form s.site h
+    well-word v w reconstruct i calm at t name s h = on-site s _ (reconstructed-well n at s.site h)
+    well-word v w push_to_list i calm at t name s h = listed-well t (name (both v w calm).0 (both v w calm).1) s.site h
+    well-word v w marker i calm at t name s h = listed-as n s.site _ h.plain h
+    well-word v w clear_to_marker i calm at t name s h = listed-as n s.site _ (plain-cleared s.site.items h.plain) h
+    well-word v w close_p i calm at t name s h = closed-well n at (is n tag.P) s.site h
+    well-word v w adopt i calm at t name s h = on-site s _ (adopted-well n tells at (token_name n t) s.site h)
+    well-word v w adopt_listed i calm at t name s h = on-site s _ (adopted-listed-well at (token_name n t) s.site h)
+    well-word v w other_end i calm at t name s h = other-well n at (token_name n t) s.site h
+    well-word v w p i calm at t name s h = first_of (cc, assumption)
+
     pub perform-well : (v : Bool) (p : Do) → tame v p ≡ true → (at : ℕ) (t : Token N) → (v ≡ true → Plain n (token_name n t)) → (s : State N) → Well n s.site → FlowWell (perform n at t p s)
-    perform-well v (p ▸ q) calm at t name s h =
-        let parts = both (tame v p) (tame v q) calm in
-        well-then (perform n at t p s) (perform n at t q) (perform-well v p parts.0 at t name s h) (λ u m. perform-well v q parts.1 at t name u m)
-    perform-well v (when question p) calm at t name s h = cond_both (answer_of n t question s) (perform n at t p s) (Done s) FlowWell (λ _. perform-well v p calm at t name s h) (λ _. h)
-    perform-well v (unless question p) calm at t name s h = cond_both (answer_of n t question s) (Done s) (perform n at t p s) FlowWell (λ _. h) (λ _. perform-well v p calm at t name s h)
-    perform-well v (choose question p q) calm at t name s h = cond_both (answer_of n t question s) (perform n at t p s) (perform n at t q s) FlowWell (λ _. perform-well v p (both (tame v p) (tame v q) calm).0 at t name s h) (λ _. perform-well v q (both (tame v p) (tame v q) calm).1 at t name s h)
-    perform-well v (fostered p) calm at t name s h = well-map false (perform n at t p (with_foster true s)) (perform-well v p calm at t name (with_foster true s) (flagged true s.site h))
-    perform-well v (each_pending p) calm at t name s h =
-        well-each (λ c. perform n c.at (character c.ch) p) (λ c u m. perform-well false p calm c.at (character c.ch) (λ e. cc) u m) s.control.pending (with_control (record s.control { pending = [] }) s) h
-    perform-well v (error m) calm at t name s h = erred n s.site _ at h
-    perform-well v insert calm at t name s h = on-site s _ (inserted-well n at (token_name n t) (token_attrs t) (place n s.site) s.site h (place-fits n (element (token_name n t) (token_attrs t)) s.site h))
-    perform-well v (insert_named x) calm at t name s h = on-site s _ (inserted-well n at (n.known x) [] (place n s.site) s.site h (place-fits n (element (n.known x) []) s.site h))
-    perform-well v insert_root calm at t name s h = on-site s _ (inserted-well n at (token_name n t) (token_attrs t) (LastIn 0) s.site h (root-fits n (element (token_name n t) (token_attrs t)) s.site h))
-    perform-well v (insert_root_named x) calm at t name s h = on-site s _ (inserted-well n at (n.known x) [] (LastIn 0) s.site h (root-fits n (element (n.known x) []) s.site h))
-    perform-well v insert_comment calm at t name s h = on-site s _ (added-well n (forest.comment (token_text t)) s.site h (LastIn (current_node s.site)) (here-fits n (forest.comment (token_text t)) s.site h) at)
-    perform-well v comment_in_document calm at t name s h = on-site s _ (added-well n (forest.comment (token_text t)) s.site h (LastIn 0) (root-fits n (forest.comment (token_text t)) s.site h) at)
-    perform-well v comment_in_first calm at t name s h = on-site s _ (added-well n (forest.comment (token_text t)) s.site h (LastIn (open_node (from_top 0 s.site))) (first-fits n (forest.comment (token_text t)) s.site h) at)
-    perform-well v insert_doctype calm at t name s h = on-site s _ (added-well n (doctype_node t) s.site h (LastIn 0) (root-fits n (doctype_node t) s.site h) at)
-    perform-well v put calm at t name s h = on-site s _ (put-well n at (token_char t) (place n s.site) s.site h (place-fits n _ s.site h))
-    perform-well v add_missing_to_first calm at t name s h = missing-well n (open_node (from_top 0 s.site)) (token_attrs t) s.site h
-    perform-well v add_missing_to_second calm at t name s h = missing-well n (open_node (from_top 1 s.site)) (token_attrs t) s.site h
-    perform-well v pop calm at t name s h = fewer n s.site _ (among-drop (stack s.site)) h
-    perform-well v (pop_to x) calm at t name s h = fewer n s.site _ (among-after _ (stack s.site)) h
-    perform-well v pop_to_name calm at t name s h = fewer n s.site _ (among-after _ (stack s.site)) h
-    perform-well v (pop_to_group group) calm at t name s h = fewer n s.site _ (among-after _ (stack s.site)) h
-    perform-well v implied calm at t name s h = fewer n s.site _ (among-past _ (stack s.site)) h
-    perform-well v (implied_except x) calm at t name s h = fewer n s.site _ (among-past _ (stack s.site)) h
-    perform-well v implied_except_name calm at t name s h = fewer n s.site _ (among-past _ (stack s.site)) h
-    perform-well v clear_to_table calm at t name s h = fewer n s.site _ (among-past _ (stack s.site)) h
-    perform-well v clear_to_body calm at t name s h = fewer n s.site _ (among-past _ (stack s.site)) h
-    perform-well v clear_to_row calm at t name s h = fewer n s.site _ (among-past _ (stack s.site)) h
-    perform-well v push_head calm at t name s h = never calm
-    perform-well v remove_head calm at t name s h = removed-well s.control.head s.site h
-    perform-well v remove_form calm at t name s h = removed-well s.control.form s.site h
-    perform-well v reconstruct calm at t name s h = on-site s _ (reconstructed-well n at s.site h)
-    perform-well v push_to_list calm at t name s h = listed-well t (name calm) s.site h
-    perform-well v marker calm at t name s h = listed-as n s.site _ h.plain h
-    perform-well v clear_to_marker calm at t name s h = listed-as n s.site _ (plain-cleared s.site.items h.plain) h
-    perform-well v close_p calm at t name s h = closed-well n at (is n tag.P) s.site h
-    perform-well v adopt calm at t name s h = on-site s _ (adopted-well n tells at (token_name n t) s.site h)
-    perform-well v adopt_listed calm at t name s h = on-site s _ (adopted-listed-well at (token_name n t) s.site h)
-    perform-well v other_end calm at t name s h = other-well n at (token_name n t) s.site h
-    perform-well v p calm at t name s h = h
+    perform-well v p calm at t name =
+        perform-comes n (tame_word v) (λ w u. v ≡ true → w ≡ true → Plain n (token_name n u)) (λ s. Well n s.site) (λ u s. Well n s.site) (λ r. Unit {0}) (λ c _ e. never e) (λ w s h. flagged w s.site h) (λ u s h. flagged false s.site h)
+        (λ s h. h) (well-word v) true p calm at t (λ e _. name e)
 
 -- what is late in the head
 abbrev is_late : TokenKind → Bool
@@ -179,7 +155,7 @@ module _ {N : Type 0} (n : Naming N) (tells : TellsTables n) where
 
   late-well : (p : Do) → tame false p ≡ true → (at : ℕ) (t : Token N) (s : State N) → HeadOut s → Well n s.site → FlowWell n (perform n at t (late p) s)
   late-well p calm at t s out h =
-      well-then n (perform n at t push_head (with_site (with_error (mode_error AfterHead) at s.site) s)) (perform n at t (p ▸ remove_head))
+      comes-then (λ u. Well n u.site) (λ u. Well n u.site) (λ u v. Well n v.site) (λ r. Unit {0}) (perform n at t push_head (with_site (with_error (mode_error AfterHead) at s.site) s)) (perform n at t (p ▸ remove_head))
       (on-site n (with_site (with_error (mode_error AfterHead) at s.site) s) _ (head-pushed-well at s.control.head (with_error (mode_error AfterHead) at s.site) (λ h' e. let o = out h' e in record { stands = o.stands; out = o.out }) (erred n s.site (mode_error AfterHead) at h)))
       (λ u m. perform-well n tells false (p ▸ remove_head) (rw calm refl) at t (λ e. cc) u m)
 
