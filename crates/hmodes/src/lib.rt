@@ -12,7 +12,6 @@ mod in_table;
 mod laws;
 mod limits;
 mod mode;
-mod runs;
 mod step;
 mod table_text;
 mod token;
