@@ -1,6 +1,6 @@
 //! Elements of the body: blocks, items, headings and forms, formatting and other elements among text (HTML Standard, `#parsing-main-inbody`).
 
-ghost use Rattle.hmodes.specs.Vocabulary.{block, close_block, close_item, end_item, IsSound, numbers, StateGives, perform, state_of, token_of, Performs, AlwaysPerforms, Does, DoesFor, in_body, Start, End, ◌▸◌, when, unless, choose, error, insert, implied, implied_except, pop_to, has_in, item_is_near, current_is, InBody};
+ghost use Rattle.hmodes.specs.Vocabulary.{block, close_block, close_item, end_item, IsSound, numbers, StateGives, perform, state_of, token_of, Performs, AlwaysPerforms, Does, in_body, Start, End, ◌▸◌, when, unless, choose, error, insert, implied, implied_except, pop_to, has_in, item_is_near, current_is, InBody};
 ghost use Rattle.hmodes.specs.Vocabulary.{reconstruct, formatting, void_in_text, push_to_list, adopt, adopt_listed, name_is_listed};
 ghost use Rattle.hmodes.specs.declared.family.Family.TheVariants as family;
 ghost use Rattle.hopen.specs.declared.scope.Scope.TheVariants as scope;
@@ -12,7 +12,7 @@ use crate::tree_construction::{Flow, Ruling, TreeConstruction, done};
 use hadopt::Passing;
 use hopen::{Group, Scope};
 use htoken::Token;
-use names::{NameId, Refusal, Tag};
+use names::{Refusal, Tag};
 
 impl<'q> TreeConstruction<'q> {
     /// The start tag of a block or a p.
@@ -217,10 +217,12 @@ impl<'q> TreeConstruction<'q> {
     }
 
     /// The adoption agency runs for a listed element of the name, which leaves the stack and the list then.
-    fn close_listed(&mut self, name: NameId, at: u64) -> Result<(), Refusal>
+    fn close_listed(&mut self, token: &Token, at: u64) -> Result<(), Refusal>
         requires { IsSound numbers self.old.site }
-        ensures { DoesFor name at (when name_is_listed (error InBody ▸ adopt_listed)) self.old result self.new }
+        ensures { StateGives result (state_of self.new)
+            (perform numbers at (token_of token.now) (when name_is_listed (error InBody ▸ adopt_listed)) (state_of self.old)) }
     {
+        let name = token_name(token);
         let Some(node) = self.site.find(name) else {
             return Ok(());
         };
@@ -236,15 +238,17 @@ impl<'q> TreeConstruction<'q> {
         requires { IsSound numbers self.old.site }
         ensures { Performs at (in_body (Start family.A)) token.old self.old result token.new self.new }
     {
-        self.close_listed(token_name(token), at)?;
+        self.close_listed(token, at)?;
         self.formatting(token, at)
     }
 
     /// The adoption agency runs for a nobr in scope.
-    fn close_nobr(&mut self, name: NameId, at: u64) -> Result<(), Refusal>
+    fn close_nobr(&mut self, token: &Token, at: u64) -> Result<(), Refusal>
         requires { IsSound numbers self.old.site }
-        ensures { DoesFor name at (when (has_in scope.Default tag.Nobr) (error InBody ▸ adopt ▸ reconstruct)) self.old result self.new }
+        ensures { StateGives result (state_of self.new)
+            (perform numbers at (token_of token.now) (when (has_in scope.Default tag.Nobr) (error InBody ▸ adopt ▸ reconstruct)) (state_of self.old)) }
     {
+        let name = token_name(token);
         if !self.site.in_scope(Scope::Default, Tag::Nobr.number()) {
             return Ok(());
         }
@@ -259,7 +263,7 @@ impl<'q> TreeConstruction<'q> {
         ensures { Performs at (in_body (Start family.Nobr)) token.old self.old result token.new self.new }
     {
         self.site.reconstruct(at)?;
-        self.close_nobr(token_name(token), at)?;
+        self.close_nobr(token, at)?;
         done(self.insert_formatting(token, at))
     }
 
