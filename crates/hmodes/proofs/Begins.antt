@@ -1,10 +1,10 @@
 -- Characters that are put after the formatting elements were reconstructed: the first of them reconstructs these.
-use Rattle.hmodes.proofs.Vocabulary.{◌≡◌, ◌≢◌, inl, inr, ℕ, Bool, true, false, List, ◌∷◌, Option, None, Result, Ok, Err, refl, sym, ◌∙◌, ap, subst, ◌&&◌, ◌==◌, if◌then◌else◌, MatchOption, false≢true, is_space, characters, Hands, Placed, Refusal, run_tokens, Gives, put_each, numbers, reconstructed, Outcome, Goes, SiteOf, and_then, OnGoes, perform, flow_of, with_site, rule_of, State, Token, character, flow_then, Rule, Chain, ends, refuses, goes_again, Step, drops, goes, is_dropped, step_begun, put, Building, TakesToken, BuilderTakesOn, BuilderStaysRefused, StepGives, refused_by, AreSome, before_text, puts_in, put_all, Mode, Alone}
+use Rattle.hmodes.proofs.Vocabulary.{◌≡◌, ◌≢◌, inl, inr, ℕ, Bool, true, false, List, ◌∷◌, None, Result, Ok, Err, refl, sym, ◌∙◌, ap, subst, ◌&&◌, ◌==◌, if◌then◌else◌, false≢true, is_space, characters, Hands, Placed, Refusal, run_tokens, Gives, put_each, numbers, reconstructed, Outcome, Goes, SiteOf, and_then, OnGoes, perform, flow_of, with_site, rule_of, State, Token, character, flow_then, Rule, Chain, ends, refuses, goes_again, Step, drops, goes, is_dropped, step_begun, put, Building, TakesToken, StepGives, refused_by, AreSome, before_text, puts_in, put_all, Mode, Alone}
 use Rattle.htoken.specs.declared.token.Token.TheVariants as code
 use Rattle.hadopt.specs.Site as site
 use Rattle.hmodes.specs.declared.mode.Mode.TheVariants as mode
 use Rattle.hmodes.specs.declared.token_kind.TokenKind.TheVariants.{Ws, Char, Nul}
-use Rattle.hmodes.proofs.InRun.{run_put, taken}
+use Rattle.hmodes.proofs.InRun.{run_put, taken, takes-on}
 use Rattle.hmodes.proofs.OnePut.{here, rule_puts, puts_now}
 use Rattle.hmodes.proofs.Renewed.{text-begins}
 
@@ -61,9 +61,6 @@ module _ (b : Building) (free : b.refused ≡ None) (off : b.state.site.foster �
   abbrev after : SiteOf ℕ → Result (Unit {0}) Refusal → Building
   after x answer = record { state = with_site x begin; root = b.root; tokenizer_errors = b.tokenizer_errors; refused = refused_by answer }
 
-  taking : (answer : Result (Unit {0}) Refusal) (new : Building) → BuilderTakesOn p.at (character p.ch) b answer new → TakesToken b (Alone (code.Char p.ch p.at)) answer new
-  taking answer new t = subst (λ (r : Option Refusal). MatchOption r (BuilderTakesOn p.at (character p.ch) b answer new) (λ q. BuilderStaysRefused q b answer new)) (sym free) t
-
   kept : is_dropped (character p.ch) b.state ≡ false
   kept = ap (λ (d : Bool). d && (p.ch == 10)) keeps_lf
 
@@ -75,7 +72,7 @@ module _ (b : Building) (free : b.refused ≡ None) (off : b.state.site.foster �
 
   -- one that is refused
   wrong : (e : Refusal) (x : SiteOf ℕ) (ps : List Placed) → StepGives p.at (character p.ch) b.state (Err e) (with_site x begin) → Hands TakesToken b (run_tokens (p ∷ ps)) (Err e) (after x (Err e))
-  wrong e x ps step = (Err e, after x (Err e), taking (Err e) (after x (Err e)) (record { step = step; tokenizer_errors = refl; root = refl; refused = refl }), (refl, refl))
+  wrong e x ps step = (Err e, after x (Err e), takes-on p.at (character p.ch) b (after x (Err e)) (Err e) free (record { step = step; tokenizer_errors = refl; root = refl; refused = refl }), (refl, refl))
 
   -- the building with the formatting elements
   abbrev now : SiteOf ℕ → Building
@@ -91,7 +88,7 @@ module _ (b : Building) (free : b.refused ≡ None) (off : b.state.site.foster �
     from-now : (answer : Result (Unit {0}) Refusal) (mid : Building) → TakesToken (now y) (Alone (code.Char p.ch p.at)) answer mid → TakesToken b (Alone (code.Char p.ch p.at)) answer mid
     from-now answer mid given =
         let on = taken p.at (character p.ch) (now y) mid answer free given in
-        taking answer mid (record {
+        takes-on p.at (character p.ch) b mid answer free (record {
           step = gives-same p.at (character p.ch) (now y).state b.state mid.state answer (λ o. step-same p.at (character p.ch) (now y).state b.state o refl kept same) on.step;
           tokenizer_errors = on.tokenizer_errors;
           root = on.root;

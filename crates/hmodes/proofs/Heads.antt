@@ -1,5 +1,6 @@
 -- The modes of the head keep what they know of it.
-use Rattle.hmodes.proofs.Vocabulary.{cond_both, ◌≡◌, ◌≢◌, ℕ, ◌+◌, ◌<◌, Bool, true, false, cond, leb, List, [], ◌∷◌, Option, Some, None, refl, sym, ◌∙◌, subst, arith, length, is_none, ◌&&◌, encode_utf8, is_present, Attribute, What, element, Forest, tree, join, change_what, graft, make, char_into, with_char, with_attribute, add_attribute, text_before, attributes_of, Place, OpenNode, TooManyNodes, TooDeep, Naming, Goes, SiteOf, and_then, stack, trees, with_stack, with_trees, added, inserted, with_open, with_missing, deep, deep-is, at-most, not-there, deep-there, counted-new, OnGoes, Well}
+use Rattle.hmodes.proofs.Vocabulary.{cond_both, ◌≡◌, ◌≢◌, ℕ, ◌+◌, ◌<◌, Bool, true, false, cond, leb, List, [], ◌∷◌, Option, Some, None, refl, sym, ◌∙◌, subst, arith, is_none, ◌&&◌, encode_utf8, is_present, Attribute, What, element, Forest, tree, join, change_what, graft, make, char_into, with_char, with_attribute, add_attribute, text_before, attributes_of, Place, OpenNode, TooManyNodes, Naming, Goes, SiteOf, and_then, stack, trees, with_trees, added, inserted, with_missing, deep, deep-is, at-most, not-there, deep-there, counted-new, OnGoes, Well}
+use Rattle.hadopt.proofs.Climbing.{inserted-goes}
 use Rattle.hnodes.specs.Forest.{text, none}
 use Rattle.hadopt.specs.Site.{Refused}
 use Rattle.hadopt.specs.Inserts.{put}
@@ -44,15 +45,9 @@ module _ {N : Type 0} (n : Naming N) where
   Deeper s t = Steady s t × ((x : OpenNode N) × (stack t ≡ x ∷ stack s) × (x.node ≡ s.nodes.made))
 
   pub inserted-steady : (at : ℕ) (name : N) (attrs : List (Attribute N)) (p : Place) (s : SiteOf N) → Well n s → OnGoes (Deeper s) (inserted at name attrs p s)
-  inserted-steady at name attrs p s h = go (leb s.nodes.limit s.nodes.made)
-    where
-      deepens : (v : Bool) → OnGoes (Deeper s) (cond v (Refused (TooDeep at)) (Goes (with_stack (record { node = s.nodes.made; name = name } ∷ stack s) (grown (element name attrs) p s h))))
-      deepens true = tt
-      deepens false = (record { out = (grown-steady (element name attrs) p s h).out; stays = (grown-steady (element name attrs) p s h).stays }, (record { node = s.nodes.made; name = name }, refl, refl))
-
-      go : (u : Bool) → OnGoes (Deeper s) (and_then (and_then (cond u (Refused (TooManyNodes at)) (Goes (record s { nodes = make (element name attrs) s.nodes }))) (λ t. Goes (with_trees (graft s.nodes.made p (trees t)) t))) (with_open at (record { node = s.nodes.made; name = name })))
-      go true = tt
-      go false = deepens (leb s.open_nodes.limit (length (stack s)))
+  inserted-steady at name attrs p s h =
+      let grows = grown-steady (element name attrs) p s h in
+      inserted-goes (Deeper s) at name attrs p s (record { out = grows.out; stays = grows.stays }, (record { node = s.nodes.made; name = name }, refl, refl))
 
   what-steady : (k : ℕ) (g : What N → What N) (s t : SiteOf N) → trees t ≡ change_what k g (trees s) → Steady s t
   what-steady k g s t e = record {

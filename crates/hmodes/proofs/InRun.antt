@@ -14,6 +14,13 @@ went x (site.Refused r) = x
 goes-not : (x : SiteOf ℕ) (r : Refusal) → site.Refused r ≡ Goes x → ⊥
 goes-not x r e = absurd cc
 
+-- what comes of a token where nothing was refused before
+pub taken : (at : ℕ) (t : Token ℕ) (old new : Building) (answer : Result (Unit {0}) Refusal) → old.refused ≡ None → TakesTokenAt at t old answer new → BuilderTakesOn at t old answer new
+taken at t old new answer none given = subst (λ (q : Option Refusal). MatchOption q (BuilderTakesOn at t old answer new) (λ why. BuilderStaysRefused why old answer new)) none given
+
+pub takes-on : (at : ℕ) (t : Token ℕ) (old new : Building) (answer : Result (Unit {0}) Refusal) → old.refused ≡ None → BuilderTakesOn at t old answer new → TakesTokenAt at t old answer new
+takes-on at t old new answer none on = subst (λ (q : Option Refusal). MatchOption q (BuilderTakesOn at t old answer new) (λ why. BuilderStaysRefused why old answer new)) (sym none) on
+
 -- In a state in which no LF is dropped, nothing is reconstructed or foster parented. What is put makes other nodes, and nothing else.
 module _ (b : Building) (free : b.refused ≡ None) (off : b.state.site.foster ≡ false) (keeps_lf : b.state.control.drop_lf ≡ false) (puts : puts_now b.state.control.mode b.state.site ≡ true) where
   abbrev begin : State ℕ
@@ -57,19 +64,16 @@ module _ (b : Building) (free : b.refused ≡ None) (off : b.state.site.foster �
       goes (ap (λ (d : Bool). d && (c == 10)) h.lf)
       (subst (λ (s : State ℕ). Chain numbers at (character c) s (site.Refused r)) (sym h.begins) (refuses (rule_with at c v some ∙ ap (flow_of (with_nodes v)) e)))
 
-  takes : (p : Placed) (old : Building) (answer : Result (Unit {0}) Refusal) (new : Building) → old.refused ≡ None → BuilderTakesOn p.at (character p.ch) old answer new → TakesToken old (Alone (code.Char p.ch p.at)) answer new
-  takes p old answer new none t = subst (λ (r : Option Refusal). MatchOption r (BuilderTakesOn p.at (character p.ch) old answer new) (λ q. BuilderStaysRefused q old answer new)) (sym none) t
-
   -- the first character, or each after another
   took : (p : Placed) (v : Nodes ℕ) (old : Building) → Before v old → (p.ch == 0) ≡ false → (x : SiteOf ℕ) → inserts.put p.at p.ch to (site_with v) ≡ Goes x → TakesToken old (Alone (code.Char p.ch p.at)) (Ok tt) (after_put x None)
   took p v old h some x e =
-      takes p old (Ok tt) (after_put x None) h.refused (record { step = step_with p.at p.ch v old h some (Goes x) e; tokenizer_errors = sym h.tokenizer_errors; root = sym h.root; refused = refl })
+      takes-on p.at (character p.ch) old (after_put x None) (Ok tt) h.refused (record { step = step_with p.at p.ch v old h some (Goes x) e; tokenizer_errors = sym h.tokenizer_errors; root = sym h.root; refused = refl })
 
   wrong : (p : Placed) (v : Nodes ℕ) (old : Building) → Before v old → (p.ch == 0) ≡ false → (x : SiteOf ℕ) (r : Refusal) → (r ≡ Memory) ⊎ (inserts.put p.at p.ch to (site_with v) ≡ site.Refused r)
       → TakesToken old (Alone (code.Char p.ch p.at)) (Err r) (after_put x (Some r))
-  wrong p v old h some x r (inl m) = takes p old (Err r) (after_put x (Some r)) h.refused (record { step = inl m; tokenizer_errors = sym h.tokenizer_errors; root = sym h.root; refused = refl })
+  wrong p v old h some x r (inl m) = takes-on p.at (character p.ch) old (after_put x (Some r)) (Err r) h.refused (record { step = inl m; tokenizer_errors = sym h.tokenizer_errors; root = sym h.root; refused = refl })
   wrong p v old h some x r (inr e) =
-      takes p old (Err r) (after_put x (Some r)) h.refused (record { step = inr (step_with p.at p.ch v old h some (site.Refused r) e); tokenizer_errors = sym h.tokenizer_errors; root = sym h.root; refused = refl })
+      takes-on p.at (character p.ch) old (after_put x (Some r)) (Err r) h.refused (record { step = inr (step_with p.at p.ch v old h some (site.Refused r) e); tokenizer_errors = sym h.tokenizer_errors; root = sym h.root; refused = refl })
 
   -- the state after a character is such a state
   later : (v : Nodes ℕ) → Before v (after_put (site_with v) None)
@@ -86,53 +90,43 @@ module _ (b : Building) (free : b.refused ≡ None) (off : b.state.site.foster �
   Put p v full = if full then site.Refused (TooManyNodes p.at) else Goes (site_with (add_char p.ch to v))
 
   module _ (x : SiteOf ℕ) where
-    abbrev PutRest : List Placed → Nodes ℕ → Type 0
-    PutRest ps w = Hands TakesToken (after_put (site_with w) None) (run_tokens ps) (Ok tt) (after_put x None)
+    -- what is put where the last character is answered this
+    abbrev outcome_of : Result (Unit {0}) Refusal → Outcome (SiteOf ℕ)
+    outcome_of (Ok u) = Goes x
+    outcome_of (Err r) = site.Refused r
 
-    put_first : (p : Placed) (ps : List Placed) (v : Nodes ℕ) (old : Building) → Before v old → (p.ch == 0) ≡ false → ((w : Nodes ℕ) → inserts.put_each ps to (site_with w) ≡ Goes x → PutRest ps w)
-        → inserts.put_each (p ∷ ps) to (site_with v) ≡ Goes x → Hands TakesToken old (run_tokens (p ∷ ps)) (Ok tt) (after_put x None)
-    put_first p ps v old h some rest e = by_room (is_full v) refl
-      where
-        by_room : (full : Bool) → is_full v ≡ full → Hands TakesToken old (run_tokens (p ∷ ps)) (Ok tt) (after_put x None)
-        by_room true full = absurd (goes-not x (TooManyNodes p.at) (sym (ap (λ (b : Bool). site.and_then (Put p v b) (inserts.put_each ps to)) full) ∙ e))
-        by_room false full =
-            let w : Nodes ℕ = add_char p.ch to v in
-            (Ok tt, after_put (site_with w) None, took p v old h some (site_with w) (ap (Put p v) full), rest w (sym (ap (λ (b : Bool). site.and_then (Put p v b) (inserts.put_each ps to)) full) ∙ e))
+    abbrev HandsRun : Building → List Placed → Result (Unit {0}) Refusal → Type 0
+    HandsRun old ps answer = Hands TakesToken old (run_tokens ps) answer (after_put x (refused_by answer))
 
-    put_rest : (ps : List Placed) → AreSome (characters ps) → (v : Nodes ℕ) → inserts.put_each ps to (site_with v) ≡ Goes x → PutRest ps v
-    put_rest [] some v e = (refl, ap (λ (y : SiteOf ℕ). after_put y None) (ap (went (site_with v)) e))
-    put_rest (p ∷ ps) some v e = put_first p ps v (after_put (site_with v) None) (later v) some.0 (put_rest ps some.1) e
-
-    module _ (r : Refusal) where
-      abbrev WrongRest : List Placed → Nodes ℕ → Type 0
-      WrongRest ps w = Hands TakesToken (after_put (site_with w) None) (run_tokens ps) (Err r) (after_put x (Some r))
-
-      wrong_first : (p : Placed) (ps : List Placed) (v : Nodes ℕ) (old : Building) → Before v old → (p.ch == 0) ≡ false → ((w : Nodes ℕ) → inserts.put_each ps to (site_with w) ≡ site.Refused r → WrongRest ps w)
-          → inserts.put_each (p ∷ ps) to (site_with v) ≡ site.Refused r → Hands TakesToken old (run_tokens (p ∷ ps)) (Err r) (after_put x (Some r))
-      wrong_first p ps v old h some rest e = by_room (is_full v) refl
+    module _ (answer : Result (Unit {0}) Refusal) where
+      put_first : (p : Placed) (ps : List Placed) (v : Nodes ℕ) (old : Building) → Before v old → (p.ch == 0) ≡ false
+          → ((w : Nodes ℕ) → inserts.put_each ps to (site_with w) ≡ outcome_of answer → HandsRun (after_put (site_with w) None) ps answer)
+          → inserts.put_each (p ∷ ps) to (site_with v) ≡ outcome_of answer → HandsRun old (p ∷ ps) answer
+      put_first p ps v old h some rest e = by_room (is_full v) refl
         where
-          by_room : (full : Bool) → is_full v ≡ full → Hands TakesToken old (run_tokens (p ∷ ps)) (Err r) (after_put x (Some r))
-          by_room true full =
-              let is : inserts.put p.at p.ch to (site_with v) ≡ site.Refused r = ap (Put p v) full ∙ sym (ap (λ (b : Bool). site.and_then (Put p v b) (inserts.put_each ps to)) full) ∙ e in
-              (Err r, after_put x (Some r), wrong p v old h some x r (inr is), (refl, refl))
+          stops : (a : Result (Unit {0}) Refusal) → is_full v ≡ true → site.Refused (TooManyNodes p.at) ≡ outcome_of a → HandsRun old (p ∷ ps) a
+          stops (Ok u) full is = absurd (goes-not x (TooManyNodes p.at) is)
+          stops (Err r) full is = (Err r, after_put x (Some r), wrong p v old h some x r (inr (ap (Put p v) full ∙ is)), (refl, refl))
+
+          by_room : (full : Bool) → is_full v ≡ full → HandsRun old (p ∷ ps) answer
+          by_room true full = stops answer full (sym (ap (λ (b : Bool). site.and_then (Put p v b) (inserts.put_each ps to)) full) ∙ e)
           by_room false full =
               let w : Nodes ℕ = add_char p.ch to v in
               (Ok tt, after_put (site_with w) None, took p v old h some (site_with w) (ap (Put p v) full), rest w (sym (ap (λ (b : Bool). site.and_then (Put p v b) (inserts.put_each ps to)) full) ∙ e))
 
-      wrong_rest : (ps : List Placed) → AreSome (characters ps) → (v : Nodes ℕ) → inserts.put_each ps to (site_with v) ≡ site.Refused r → WrongRest ps v
-      wrong_rest [] some v e = absurd (goes-not (site_with v) r (sym e))
-      wrong_rest (p ∷ ps) some v e = wrong_first p ps v (after_put (site_with v) None) (later v) some.0 (wrong_rest ps some.1) e
+      put_rest : (ps : List Placed) → AreSome (characters ps) → (v : Nodes ℕ) → inserts.put_each ps to (site_with v) ≡ outcome_of answer → HandsRun (after_put (site_with v) None) ps answer
+      put_rest [] some v e = ends answer e
+        where
+          ends : (a : Result (Unit {0}) Refusal) → Goes (site_with v) ≡ outcome_of a → HandsRun (after_put (site_with v) None) [] a
+          ends (Ok u) is = (refl, ap (λ (y : SiteOf ℕ). after_put y None) (ap (went (site_with v)) is))
+          ends (Err r) is = absurd (goes-not (site_with v) r (sym is))
+      put_rest (p ∷ ps) some v e = put_first p ps v (after_put (site_with v) None) (later v) some.0 (put_rest ps some.1) e
 
     -- the whole run
-    pub run_put : (p : Placed) (ps : List Placed) → AreSome (characters (p ∷ ps)) → (answer : Result (Unit {0}) Refusal) → Gives answer x (inserts.put_each (p ∷ ps) to b.state.site)
-        → Hands TakesToken b (run_tokens (p ∷ ps)) answer (after_put x (refused_by answer))
-    run_put p ps some (Ok u) e = put_first p ps b.state.site.nodes b whole some.0 (put_rest ps some.1) e
+    pub run_put : (p : Placed) (ps : List Placed) → AreSome (characters (p ∷ ps)) → (answer : Result (Unit {0}) Refusal) → Gives answer x (inserts.put_each (p ∷ ps) to b.state.site) → HandsRun b (p ∷ ps) answer
+    run_put p ps some (Ok u) e = put_first (Ok tt) p ps b.state.site.nodes b whole some.0 (put_rest (Ok tt) ps some.1) e
     run_put p ps some (Err r) (inl m) = (Err r, after_put x (Some r), wrong p b.state.site.nodes b whole some.0 x r (inl m), (refl, refl))
-    run_put p ps some (Err r) (inr e) = wrong_first r p ps b.state.site.nodes b whole some.0 (wrong_rest r ps some.1) e
-
--- what comes of a token where nothing was refused before
-pub taken : (at : ℕ) (t : Token ℕ) (old new : Building) (answer : Result (Unit {0}) Refusal) → old.refused ≡ None → TakesTokenAt at t old answer new → BuilderTakesOn at t old answer new
-taken at t old new answer none given = subst (λ (q : Option Refusal). MatchOption q (BuilderTakesOn at t old answer new) (λ why. BuilderStaysRefused why old answer new)) none given
+    run_put p ps some (Err r) (inr e) = put_first (Err r) p ps b.state.site.nodes b whole some.0 (put_rest (Err r) ps some.1) e
 
 -- the building after a token, and after tokens
 pub stands-on : (at : ℕ) (t : Token ℕ) (old new : Building) → BuilderStands old.root old.state → BuilderTakesOn at t old (Ok tt) new → BuilderStands new.root new.state

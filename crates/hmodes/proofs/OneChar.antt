@@ -1,8 +1,9 @@
 -- A character by the rules of a mode that puts it, maybe after the formatting elements, or keeps it as pending.
-use Rattle.hmodes.proofs.Vocabulary.{◌≡◌, inl, inr, ℕ, Bool, true, false, Option, Some, None, Result, Ok, Err, refl, sym, ◌∙◌, ap, subst, ◌&&◌, ◌==◌, not, is_none, if◌then◌else◌, MatchOption, result_err, false≢true, is_space, Refusal, numbers, StateGives, perform, rule_of, State, character, Rule, ends, refuses, goes, step_begun, Do, Building, TakesToken, BuilderTakesOn, BuilderStaysRefused, refused_by, is_for_text, char_rule, takes_char, Mode, Alone}
+use Rattle.hmodes.proofs.Vocabulary.{◌≡◌, inl, inr, ℕ, Bool, true, false, Option, Some, None, Result, Ok, Err, refl, ◌∙◌, ap, subst, ◌&&◌, ◌==◌, not, is_none, if◌then◌else◌, result_err, false≢true, is_space, Refusal, numbers, StateGives, perform, rule_of, State, character, Rule, ends, refuses, goes, step_begun, Do, Building, TakesToken, refused_by, is_for_text, char_rule, takes_char, Mode, Alone}
 use Rattle.htoken.specs.declared.token.Token.TheVariants as code
 use Rattle.hmodes.specs.declared.token_kind.TokenKind.TheVariants.{Ws, Char, Nul}
 use Rattle.hmodes.specs.declared.mode.Mode.TheVariants as mode
+use Rattle.hmodes.proofs.InRun.{takes-on}
 use Rattle.hmodes.proofs.TextRun.{err_is}
 
 rule_is : (m : Mode) (space : Bool) → is_for_text m ≡ true → rule_of m (if space then Ws else Char) ≡ char_rule m
@@ -34,16 +35,13 @@ module _ (b : Building) (free : b.refused ≡ None) (takes : takes_char b.state 
   abbrev after : State ℕ → Option Refusal → Building
   after t refused = record { state = t; root = b.root; tokenizer_errors = b.tokenizer_errors; refused = refused }
 
-  taking : (answer : Result (Unit {0}) Refusal) (new : Building) → BuilderTakesOn at (character c) b answer new → TakesToken b (Alone (code.Char c at)) answer new
-  taking answer new t = subst (λ (r : Option Refusal). MatchOption r (BuilderTakesOn at (character c) b answer new) (λ q. BuilderStaysRefused q b answer new)) (sym free) t
-
   pub taken_by_rule : (answer : Result (Unit {0}) Refusal) (t : State ℕ) → StateGives answer t (perform numbers at (character c) (char_rule b.state.control.mode) (step_begun b.state))
       → TakesToken b (Alone (code.Char c at)) answer (after t (refused_by answer))
   taken_by_rule (Ok u) t g =
-      taking (Ok tt) (after t None) (record { step = goes (ap (λ (d : Bool). d && (c == 10)) parts.0) (ends (rule ∙ g)); tokenizer_errors = refl; root = refl; refused = refl })
-  taken_by_rule (Err r) t (inl m) = taking (Err r) (after t (Some r)) (record { step = inl m; tokenizer_errors = refl; root = refl; refused = refl })
+      takes-on at (character c) b (after t None) (Ok tt) free (record { step = goes (ap (λ (d : Bool). d && (c == 10)) parts.0) (ends (rule ∙ g)); tokenizer_errors = refl; root = refl; refused = refl })
+  taken_by_rule (Err r) t (inl m) = takes-on at (character c) b (after t (Some r)) (Err r) free (record { step = inl m; tokenizer_errors = refl; root = refl; refused = refl })
   taken_by_rule (Err r) t (inr e) =
-      taking (Err r) (after t (Some r)) (record { step = inr (goes (ap (λ (d : Bool). d && (c == 10)) parts.0) (refuses (rule ∙ e))); tokenizer_errors = refl; root = refl; refused = refl })
+      takes-on at (character c) b (after t (Some r)) (Err r) free (record { step = inr (goes (ap (λ (d : Bool). d && (c == 10)) parts.0) (refuses (rule ∙ e))); tokenizer_errors = refl; root = refl; refused = refl })
 
 -- what a call leaves that begins a token and goes by such a rule
 pub left_by_rule : (b old : Building) (t : State ℕ) (refused : Option Refusal) (answer : Result (Unit {0}) Refusal) → old ≡ b → refused ≡ result_err answer

@@ -1,5 +1,6 @@
 -- A start tag of a raw kind leads to the mode "text", by a test on the programs of each mode.
-use Rattle.hmodes.proofs.Vocabulary.{cond_both, ◌≡◌, ◌≢◌, ◌⊎◌, inl, inr, ℕ, ◌<◌, Bool, true, false, not, cond, leb, List, ◌∷◌, Option, Some, None, refl, sym, ◌∙◌, ap, subst, arith, length, ◌&&◌, ◌||◌, IfSome, ne_eqb, Attribute, OpenNode, current, TooManyNodes, TooDeep, Tag, Naming, Outcome, Goes, SiteOf, and_then, stack, trees, with_stack, with_trees, with_error, OnGoes, Family, Mode, AfterHead, Text, InTableText, family_of, Do, Start, Char, ◌▸◌, choose, fostered, each_pending, again, TokenKind, to, to_saved, save_mode, insert, put, drop_lf, push_head, remove_head, pending_is_ws, raw, after_head, late, perform, with_foster, with_site, inserted_here, flow_of, head_pushed, removed, rule_of, mode_error, NonVoidHtmlElementStartTagWithTrailingSolidus, Token, start, Control, State, Flow, Done, Again, Refused, flow_then, flow_map, Rule, Chain, ends, refuses, goes_again, drops, goes, step_begun, finished, is_ended, IsLimit, Inserts, at_once, in_first, in_second, in_fostered, RulesInsert, by_rule, by_next, IsInText, ComesToText, RawFollows, Place, element, graft, make, place, inserted, with_open, in_table_text, other_in_table}
+use Rattle.hmodes.proofs.Vocabulary.{cond_both, ◌≡◌, ◌≢◌, ◌⊎◌, inl, inr, ℕ, ◌<◌, Bool, true, false, not, leb, List, ◌∷◌, Option, Some, None, refl, sym, ◌∙◌, ap, subst, arith, length, ◌&&◌, ◌||◌, IfSome, ne_eqb, Attribute, OpenNode, current, TooDeep, Tag, Naming, Outcome, Goes, SiteOf, stack, with_stack, with_error, OnGoes, Family, Mode, AfterHead, Text, InTableText, family_of, Do, Start, Char, ◌▸◌, choose, fostered, each_pending, again, TokenKind, to, to_saved, save_mode, insert, put, drop_lf, push_head, remove_head, pending_is_ws, raw, after_head, late, perform, with_foster, with_site, inserted_here, flow_of, head_pushed, removed, rule_of, mode_error, NonVoidHtmlElementStartTagWithTrailingSolidus, Token, start, Control, State, Flow, Done, Again, Refused, flow_then, flow_map, Rule, Chain, ends, refuses, goes_again, drops, goes, step_begun, finished, is_ended, IsLimit, Inserts, at_once, in_first, in_second, in_fostered, RulesInsert, by_rule, by_next, IsInText, ComesToText, RawFollows, Place, place, inserted, in_table_text, other_in_table}
+use Rattle.hadopt.proofs.Climbing.{inserted-goes}
 use Rattle.names.specs.Sets.{raw_kind}
 use Rattle.names.specs.declared.tag.Tag.TheVariants as tag
 use Rattle.hadopt.specs.Site as site
@@ -168,18 +169,7 @@ module _ {N : Type 0} (n : Naming N) (at : ℕ) (name : N) (attrs : List (Attrib
 
   -- what an insertion leaves on the stack
   inserted-top : (p : Place) (x : SiteOf N) → OnGoes (λ y. stack y ≡ record { node = x.nodes.made; name = name } ∷ stack x) (inserted at name attrs p x)
-  inserted-top p x = go (leb x.nodes.limit x.nodes.made)
-    where
-      top : (v : Bool) (y : SiteOf N) → stack y ≡ stack x
-          → OnGoes (λ z. stack z ≡ record { node = x.nodes.made; name = name } ∷ stack x) (cond v (site.Refused (TooDeep at)) (Goes (with_stack (record { node = x.nodes.made; name = name } ∷ stack y) y)))
-      top true y same = tt
-      top false y same = ap (λ up. record { node = x.nodes.made; name = name } ∷ up) same
-
-      go : (u : Bool) → OnGoes (λ z. stack z ≡ record { node = x.nodes.made; name = name } ∷ stack x)
-          (and_then (and_then (cond u (site.Refused (TooManyNodes at)) (Goes (record x { nodes = make (element name attrs) x.nodes }))) (λ t. Goes (with_trees (graft x.nodes.made p (trees t)) t)))
-          (with_open at (record { node = x.nodes.made; name = name })))
-      go true = tt
-      go false = top (leb x.open_nodes.limit (length (stack x))) (with_trees (graft x.nodes.made p (make (element name attrs) x.nodes).trees) (record x { nodes = make (element name attrs) x.nodes })) refl
+  inserted-top p x = inserted-goes (λ y. stack y ≡ record { node = x.nodes.made; name = name } ∷ stack x) at name attrs p x refl
 
   -- the head leaves the open nodes, and is not the one that was made after it
   head-leaves : (head : Option ℕ) (made : ℕ) (up : List (OpenNode N)) (y : SiteOf N) → ((h : ℕ) → head ≡ Some h → h < made) → stack y ≡ record { node = made; name = name } ∷ up
@@ -211,11 +201,8 @@ module _ {N : Type 0} (n : Naming N) (at : ℕ) (name : N) (attrs : List (Attrib
 
       pushed-same : (head : Option ℕ) → OnGoes (λ x. x.nodes ≡ s.site.nodes) (head_pushed n at head erred.site)
       pushed-same None = refl
-      pushed-same (Some h) = room (leb s.site.open_nodes.limit (length (stack s.site)))
-        where
-          room : (v : Bool) → OnGoes (λ x. x.nodes ≡ s.site.nodes) (cond v (site.Refused (TooDeep at)) (Goes (with_stack (record { node = h; name = n.known tag.Head } ∷ stack s.site) erred.site)))
-          room true = tt
-          room false = refl
+      pushed-same (Some h) = cond_both (leb s.site.open_nodes.limit (length (stack s.site))) (site.Refused (TooDeep at)) (Goes (with_stack (record { node = h; name = n.known tag.Head } ∷ stack s.site) erred.site))
+          (OnGoes (λ x. x.nodes ≡ s.site.nodes)) (λ _. tt) (λ _. refl)
 
       go : (o : Outcome (SiteOf N)) → head_pushed n at s.control.head erred.site ≡ o → OnGoes (λ x. x.nodes ≡ s.site.nodes) o → Mild erred (flow_of erred o) → Leads s0 (flow_then (flow_of erred o) (perform n at tag_token (raw ▸ remove_head)))
       go (Goes x) is same m = late-inserted s0 (with_site x erred) (λ h e. rw same (below h e)) (λ v w. on_way v (in_second refl (in_second (ap (flow_of erred) is) w)))
