@@ -1,6 +1,5 @@
 -- What the edits keep: each node is in the forest once, and the document's tree comes first.
-use Rattle.std.proofs.lemmas.Bool.{cases_Bool}
-use Rattle.hnodes.proofs.Names.{inl, inr, ◌≡◌, ◌≢◌, ℕ, suc, ◌+◌, ◌<◌, ◌≤◌, Bool, eqb, cond, refl, ◌∙◌, subst, arith, ne_eqb, le-leb, lt-leb, What, document, Forest, none, tree, times, join, tree_at, cut, children_of, change_children, change_what, put_before, AreCounted, place_node, graft, move_all, Place, LastIn, Before}
+use Rattle.hnodes.proofs.Names.{inl, inr, ◌≡◌, ◌≢◌, ℕ, suc, ◌+◌, ◌<◌, ◌≤◌, Bool, eqb, cond, refl, ◌∙◌, subst, arith, ne_eqb, le-leb, lt-leb, What, document, Forest, none, tree, times, join, tree_at, cut, children_of, change_children, change_what, put_before, AreCounted, place_node, graft, move_all, Place, LastIn, Before, cases_Bool}
 use Rattle.hnodes.proofs.Forests.{times-join, times-cut, times-emptied, children-apart}
 use Rattle.hnodes.proofs.Whats.{times-what}
 use Rattle.hnodes.proofs.Counts.{emptied, times-hung, times-put, times-emptied-apart}

@@ -1,29 +1,20 @@
 -- To move the first child of a node until none is left is to move them all.
-use Rattle.hnodes.proofs.Names.{inl, inr, ◌≡◌, ◌≢◌, ℕ, ◌+◌, ◌<◌, Bool, cond, Some, None, refl, sym, ◌∙◌, ap, subst, arith, eqb-true, eq-eqb, ne_eqb, What, Forest, none, tree, size, times, join, tree_at, cut, children_of, change_children, IsOutside, first_or, first_child_of, Nodes, AreNodes, graft_last, move_all}
-use Rattle.std.proofs.lemmas.Bool.{cases_lt}
-use Rattle.hnodes.proofs.Forests.{join-none, join-assoc, times-join, tree_at-absent, children_of-absent, change_children-absent, times-changed, times-cut, children-apart, change-const}
-use Rattle.hnodes.proofs.Counted.{at-most, is-there}
+use Rattle.hnodes.proofs.Names.{inl, inr, ◌≡◌, ◌≢◌, ℕ, ◌+◌, ◌<◌, Bool, cond, Some, None, refl, sym, ◌∙◌, ap, subst, arith, eq-eqb, ne_eqb, What, Forest, none, tree, size, times, join, tree_at, children_of, change_children, IsOutside, first_or, first_child_of, Nodes, AreNodes, graft_last, move_all, cases_lt, LastIn}
+use Rattle.hnodes.proofs.Forests.{children_of-changed, join-none, join-assoc, times-join, children_of-absent, change_children-absent, children-apart}
+use Rattle.hnodes.proofs.Counted.{at-most, counted-graft, is-there}
 use Rattle.hnodes.proofs.Levels.{edits-below}
-use Rattle.hnodes.proofs.Families.{at_root, in_kids, in_rest, sited, family, first-is, first_child-is, children-among}
+use Rattle.hnodes.proofs.Families.{family, first-is, first_child-is, children-among}
 
 module _ {N : Type 0} where
-  tree_at-front : (n : ℕ) (f g : Forest N) → times n g ≡ 0 → tree_at n (join f g) ≡ tree_at n f
-  tree_at-front n none g h = tree_at-absent n g h
-  tree_at-front n (tree b w kids rest) g h = rw (tree_at-front n rest g h) refl
+  children_of-front : (n : ℕ) (f g : Forest N) → times n g ≡ 0 → children_of n (join f g) ≡ children_of n f
+  children_of-front n none g h = children_of-absent n g h
+  children_of-front n (tree b w kids rest) g h = rw (children_of-front n rest g h) refl
 
-  -- what comes under p does not show in the tree of m, which p is not in
-  tree_at-elsewhere : (m p : ℕ) (T f : Forest N) → times m T ≡ 0 → times p (tree_at m f) ≡ 0 → tree_at m (change_children p (λ k. join k T) f) ≡ tree_at m f
-  tree_at-elsewhere m p T none t h = refl
-  tree_at-elsewhere m p T (tree b w kids rest) t h = grind (arith, tree_at-elsewhere m p T kids t, tree_at-elsewhere m p T rest t, change_children-absent, tree_at-front, times-join)
-
-  -- the tree of m has the new children of m
-  tree_at-changed : (m : ℕ) (R f : Forest N) → times m f ≡ 1 → (w : What N) × (tree_at m (change_children m (λ _. R) f) ≡ tree m w R none)
-  tree_at-changed m R none h = absurd (omega arith)
-  tree_at-changed m R (tree b w kids rest) h = elim (sited m b kids rest h) [
-    | at_root e a z ↦ (w, rw (e, e, eqb-true b m e) refl)
-    | in_kids e a z ↦ let i = tree_at-changed m R kids a in (i.0, rw (e, e, change_children-absent m (λ _. R) rest z, tree_at-absent m rest z, join-none (tree_at m (change_children m (λ _. R) kids))) i.1)
-    | in_rest e a z ↦ let i = tree_at-changed m R rest z in (i.0, rw (e, e, change_children-absent m (λ _. R) kids a, tree_at-absent m kids a) i.1)
-  ]
+  -- what comes under p does not show in the children of m, where p is not
+  children_of-elsewhere : (m p : ℕ) (T f : Forest N) → m ≢ p → times m T ≡ 0 → times p (children_of m f) ≡ 0 → children_of m (change_children p (λ k. join k T) f) ≡ children_of m f
+  children_of-elsewhere m p T none h t out = refl
+  children_of-elsewhere m p T (tree b w kids rest) h t out =
+      grind (arith, children_of-elsewhere m p T kids h t, children_of-elsewhere m p T rest h t, change_children-absent, children_of-front, times-join)
 
   change-change : (p : ℕ) (a b : Forest N → Forest N) (f : Forest N) → change_children p a (change_children p b f) ≡ change_children p (λ k. a (b k)) f
   change-change p a b none = refl
@@ -89,14 +80,11 @@ module _ {N : Type 0} where
           let m_p : m ≢ p = λ j. let o : 1 + (times p (tree c w k R) + 0) ≡ 0 = subst (λ (u : Bool). cond u 1 0 + (times p (tree c w k R) + 0) ≡ 0) (eq-eqb m p j) p_tree in omega arith in
           let p_T : times p (tree_at c f) ≡ 0 = ap (times p) cuts.tree_is ∙ omega (arith, p_tree) in
           let m_T : times m T ≡ 0 = let o : times m (tree c w k R) ≡ 0 = ap (times m) (sym is) ∙ children-apart m f one_m in omega arith in
-          -- the tree of m has the children after c
-          let changed : (u : What N) × (tree_at m (change_children m (λ _. R) f) ≡ tree m u R none) = tree_at-changed m R f one_m in
-          let p_changed : times p (tree m changed.0 R none) ≡ 0 = rw (ne_eqb m p m_p) (omega (arith, p_tree)) in
-          let tree_m : tree_at m (graft_last c p f) ≡ tree m changed.0 R none = ap (tree_at m) g_is ∙ tree_at-elsewhere m p T (change_children m (λ _. R) f) m_T (ap (times p) changed.1 ∙ p_changed) ∙ changed.1 in
-          let out' : times p (tree_at m (graft_last c p f)) ≡ 0 = ap (times p) tree_m ∙ p_changed in
-          let left_p : times p (cut c f) ≡ 1 = omega (arith, times-cut p c f, p_T, is-there v.made v.trees a.counted p hp) in
-          let one_m' : times m (graft_last c p f) ≡ 1 = let K : Forest N = children_of p (cut c f) in ap (times m) (change-const p (λ x. join x (tree_at c f)) (cut c f) left_p) ∙ omega (arith, times-changed m p (join K (tree_at c f)) (cut c f) left_p, times-join m K (tree_at c f), times-cut m c f, one_m) in
-          let children' : children_of m (graft_last c p f) ≡ R = cc ((family m (graft_last c p f) one_m').1, tree_m) in
+          -- the children of m are those after c
+          let left : children_of m (change_children m (λ _. R) f) ≡ R = children_of-changed m (λ _. R) f one_m in
+          let children' : children_of m (graft_last c p f) ≡ R = ap (children_of m) g_is ∙ children_of-elsewhere m p T (change_children m (λ _. R) f) m_p m_T (ap (times p) left ∙ omega (arith, p_tree)) ∙ left in
+          let one_m' : times m (graft_last c p f) ≡ 1 = is-there v.made (graft_last c p f) (counted-graft v.made c (LastIn p) f a.counted positive tt (is-there v.made f a.counted p hp) p_T) m h in
+          let out' : times p (tree_at m (graft_last c p f)) ≡ 0 = ap (times p) (family m (graft_last c p f) one_m').1 ∙ rw (children', ne_eqb m p m_p) (omega (arith, p_tree)) in
           let E : Forest N = change_children m (λ _. none) f in
           let emptied : change_children m (λ _. none) (graft_last c p f) ≡ change_children p (λ x. join x T) E = ap (change_children m (λ _. none)) g_is ∙ empty-elsewhere m p T (change_children m (λ _. R) f) m_p m_T ∙ ap (change_children p (λ x. join x T)) (change-change m (λ _. none) (λ _. R) f) in
           let moved : move_all m p (graft_last c p f) ≡ move_all m p f = (λ i. change_children p (λ x. join x (children' i)) (emptied i)) ∙ change-change p (λ x. join x R) (λ x. join x T) E ∙ (λ i. change_children p (λ x. join-assoc x T R i) E) ∙ (λ i. change_children p (λ x. join x (sym is i)) E) in

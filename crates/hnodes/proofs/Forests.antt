@@ -1,14 +1,13 @@
 -- Laws of forests.
-use Rattle.hnodes.proofs.Names.{◌≡◌, ℕ, ◌+◌, eqb, if◌then◌else◌, List, [], ◌∷◌, ◌++◌, Option, Some, refl, ap, arith, Forest, none, tree, roots, size, times, join, tree_at, cut, children_of, change_children, first_or, last_or, None, option_map, spot_below, spot_of, either_of, Look, Linked, Loose, row_at, ◌∙◌}
-use Rattle.std.proofs.lemmas.Bool.Decides.{nat_tests}
+use Rattle.hnodes.proofs.Names.{◌≡◌, ℕ, ◌+◌, eqb, List, ◌∷◌, ◌++◌, Option, Some, refl, ap, arith, Forest, none, tree, roots, size, times, join, tree_at, cut, children_of, change_children, first_or, last_or, None, option_map, spot_below, spot_of, either_of, Look, Linked, Loose, row_at, ◌∙◌, nat_tests, not, ◌≤◌}
+use Rattle.std.specs.List.{filter}
 
 pub some_inj : {A : Type 0} {a b : A} → Some a ≡ Some b → a ≡ b
 some_inj e = cc
 
--- a list without its first n
+-- a list without n
 abbrev pub without : ℕ → List ℕ → List ℕ
-without n [] = []
-without n (x ∷ xs) = if eqb x n then xs else x ∷ without n xs
+without n xs = filter (λ x. not (eqb x n)) xs
 
 module _ {N : Type 0} where
   pub times-join : (n : ℕ) (f g : Forest N) → times n (join f g) ≡ times n f + times n g
@@ -56,6 +55,10 @@ module _ {N : Type 0} where
   change_children-absent p g none h = refl
   change_children-absent p g (tree b w kids rest) h = grind (arith, change_children-absent p g kids, change_children-absent p g rest)
 
+  pub children_of-changed : (p : ℕ) (g : Forest N → Forest N) (f : Forest N) → times p f ≡ 1 → children_of p (change_children p g f) ≡ g (children_of p f)
+  children_of-changed p g none h = absurd (omega arith)
+  children_of-changed p g (tree b w kids rest) h = grind (arith, children_of-changed p g kids, children_of-changed p g rest, change_children-absent, children_of-absent, join-none)
+
   -- what is cut and what is left are all there was
   pub times-cut : (m n : ℕ) (f : Forest N) → times m (cut n f) + times m (tree_at n f) ≡ times m f
   times-cut m n none = refl
@@ -65,9 +68,13 @@ module _ {N : Type 0} where
   size-cut n none = refl
   size-cut n (tree b w kids rest) = grind (arith, size-cut n kids, size-cut n rest, size-join)
 
-  pub roots-cut : (n : ℕ) (f : Forest N) → roots (cut n f) ≡ without n (roots f)
-  roots-cut n none = refl
-  roots-cut n (tree b w kids rest) = grind (arith, roots-cut n rest)
+  roots-absent : (n : ℕ) (f : Forest N) → times n f ≡ 0 → without n (roots f) ≡ roots f
+  roots-absent n none h = refl
+  roots-absent n (tree b w kids rest) h = grind (arith, roots-absent n rest)
+
+  pub roots-cut : (n : ℕ) (f : Forest N) → times n f ≤ 1 → roots (cut n f) ≡ without n (roots f)
+  roots-cut n none h = refl
+  roots-cut n (tree b w kids rest) h = grind (arith, roots-cut n rest, roots-absent n rest)
 
   -- a change below leaves the trees themselves
   pub roots-change_children : (p : ℕ) (g : Forest N → Forest N) (f : Forest N) → roots (change_children p g f) ≡ roots f

@@ -48,7 +48,7 @@ module _ {N : Type 0} where
         rw r.is (Loose-hook mid new n q r.what r.kids L R (cut n f) c.other kids
         (λ b. let t : times b (tree_at n f) ≡ times b (tree n r.what r.kids none) = ap (times b) r.is in omega (arith, times-cut b n f, once-of count look f c.stands b))
         is two.0 (subst (λ (t : Forest N). Linked mid None None t None) r.is two.1));
-    loose_ones = roots-change_children q (λ _. join L (join (tree_at n f) R)) (cut n f) ∙ roots-cut n f ∙ ap (without n) c.stands.loose_ones
+    loose_ones = roots-change_children q (λ _. join L (join (tree_at n f) R)) (cut n f) ∙ roots-cut n f (omega (arith, c.one)) ∙ ap (without n) c.stands.loose_ones
         ∙ sym (loose-moved n q count (parent_in (look n)) (previous_in (look n)) (next_in (look n)) (last_or None L) (first_or R None) look mid new c.is is);
     all =
         let k : size (children_of q (cut n f)) ≡ size L + size R = ap size kids ∙ size-join L R in

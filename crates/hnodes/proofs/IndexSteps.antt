@@ -1,5 +1,5 @@
 -- Groups of numbers, the walk down a group, and what is kept of a list under each change.
-use Rattle.hnodes.proofs.IndexNames.{◌≡◌, ◌≢◌, ℕ, true, false, not, eqb, List, get_or, eqb-true, eqb-false, eq-eqb, ne_eqb, not_from_false, not_from_true, none, last_up, is_in_group, numbers_of, Link, group_of, ◌<◌, ◌-◌, arith, zero, suc, ◌≤◌, Bool, length, refl, sym, ◌∙◌, ap, subst, get_or-map, get_or_default, length-map, link_number, before_of, befores_of, Keep, IsIndexed, in_group_of, [], ◌∷◌, ◌++◌, map, take, set, inl, inr, cases_lt, get_or-set_same, get_or-set_other, length-set, length-take-le, length_push, take-map, take-append-le, SaysLast}
+use Rattle.hnodes.proofs.IndexNames.{◌≡◌, ◌≢◌, ℕ, true, false, not, eqb, List, get_or, eqb-true, eqb-false, eq-eqb, ne_eqb, not_from_false, not_from_true, none, last_up, is_in_group, numbers_of, Link, group_of, ◌<◌, ◌-◌, arith, zero, suc, ◌≤◌, Bool, length, refl, sym, ◌∙◌, ap, subst, get_or-map, get_or_default, length-map, link_number, before_of, befores_of, Keep, IsIndexed, in_group_of, [], ◌∷◌, ◌++◌, map, take, set, inl, inr, cases_lt, get_or-set_same, get_or-set_other, length-set, length-take-le, length_push, take-map, take-append-le, IndexedTo}
 use Rattle.std.proofs.lemmas.Nat.{and_le_r}
 use Rattle.std.proofs.lemmas.Bool.{and_parts, and_from, and_left, and_right, not-true, cases_eq}
 use Rattle.hnodes.proofs.LastUp.{up-sought, up-other, up-within, up-found, up-alike}
@@ -116,7 +116,7 @@ module _ {links : List Link} {number place : ℕ} {x : Link} (some : number ≢ 
 pub walk-from : {last : List ℕ} {links : List Link} {place : ℕ} {x : Link} → IsIndexed last links → IsAt links place x → x.number ≢ none → Walks links x.number place
 walk-from {last} {links} {place} {x} c at some = record {
   width = length last;
-  kept = c.kept;
+  kept = c.to.kept;
   group = λ _. ap (in_group_of (length last) x.number) (number-at at) ∙ in-group (length last) (group_of x.number (length last)) x.number some refl;
 }
 
@@ -125,23 +125,18 @@ module _ {last : List ℕ} {links : List Link} (c : IsIndexed last links) (numbe
   last-at : place ≡ nearest links (length last) (group_of number (length last)) (length (numbers_of links))
   last-at =
       let within = group-less number (length last) wide in
-      is ∙ get_or_default last (group_of number (length last)) place 0 within ∙ c.says (group_of number (length last)) within
+      is ∙ get_or_default last (group_of number (length last)) place 0 within ∙ c.to.says (group_of number (length last)) within
 
   pub last-le : place ≤ length links
   last-le = omega (arith, last-at, up-within (in_group_of (length last) number) (numbers_of links) (length (numbers_of links)), length-map links link_number)
 
   pub last-walks : Walks links number place
-  last-walks = walks-up links (length last) number place (length (numbers_of links)) c.kept last-at
+  last-walks = walks-up links (length last) number place (length (numbers_of links)) c.to.kept last-at
 
   pub last-found : sought_up links number (length (numbers_of links)) ≡ sought_up links number place
   last-found = from-group links (length last) number (length (numbers_of links)) some ∙ ap (sought_up links number) (sym last-at)
 
 -- What is kept of a list of numbers, under each change.
-
--- what a table says, and what is kept, of the first links
-pub record IndexedTo (last : List ℕ) (links : List Link) (k : ℕ) : Type 0 where
-  pub says : (g : ℕ) → g < length last → get_or last g 0 ≡ nearest links (length last) g k
-  pub kept : (i : ℕ) → i < k → get_or (numbers_of links) i 0 ≢ none → get_or (befores_of links) i 0 ≡ own_nearest links (length last) i
 
 -- a table says no place past the end
 pub says-le : (last : List ℕ) (links : List Link) (k g : ℕ) → IndexedTo last links k → g < length last → get_or last g 0 ≤ k
@@ -170,14 +165,6 @@ module _ (k : ℕ) (xs ys : List Link) (same : take k xs ≡ take k ys) (in_xs :
 
 -- links that differ in their hints alone
 module _ (last : List ℕ) (xs ys : List Link) (numbers : numbers_of ys ≡ numbers_of xs) (befores : befores_of ys ≡ befores_of xs) where
-  pub indexed-same : IsIndexed last xs → IsIndexed last ys
-  indexed-same c = record {
-    wide = λ some. c.wide (omega (arith, ap length numbers, length-map xs link_number, length-map ys link_number));
-    says = subst (λ (ns : List ℕ). SaysLast last ns) (sym numbers) c.says;
-    kept = subst (λ (ns : List ℕ). Keep (length last) ns (befores_of ys)) (sym numbers)
-        (subst (λ (bs : List ℕ). Keep (length last) (numbers_of xs) bs) (sym befores) c.kept);
-  }
-
   pub indexed_to-same : (k : ℕ) → IndexedTo last xs k → IndexedTo last ys k
   indexed_to-same k c = record {
     says = λ g h. c.says g h ∙ ap (λ ns. last_up (is_in_group (length last) g) ns k) (sym numbers);
@@ -186,24 +173,19 @@ module _ (last : List ℕ) (xs ys : List Link) (numbers : numbers_of ys ≡ numb
         ∙ ap (λ ns. last_up (in_group_of (length last) (get_or ns i 0)) ns i) (sym numbers);
   }
 
+  pub indexed-same : IsIndexed last xs → IsIndexed last ys
+  indexed-same c = record {
+    wide = λ some. c.wide (omega (arith, ap length numbers, length-map xs link_number, length-map ys link_number));
+    to = subst (IndexedTo last ys) (ap length (sym numbers)) (indexed_to-same (length (numbers_of xs)) c.to);
+  }
+
 -- what is said and kept of a whole list
 module _ (last : List ℕ) (links : List Link) where
   indexed-all : IsIndexed last links → IndexedTo last links (length links)
-  indexed-all c =
-      let len = length-map links link_number in
-      record {
-        says = λ g h. c.says g h ∙ ap (nearest links (length last) g) len;
-        kept = λ i h some. c.kept i (omega arith) some;
-      }
+  indexed-all c = subst (IndexedTo last links) (length-map links link_number) c.to
 
   pub is_indexed-all : (0 < length links → 0 < length last) → IndexedTo last links (length links) → IsIndexed last links
-  is_indexed-all wide c =
-      let len = length-map links link_number in
-      record {
-        wide = wide;
-        says = λ g h. c.says g h ∙ ap (nearest links (length last) g) (sym len);
-        kept = λ i h some. c.kept i (omega arith) some;
-      }
+  is_indexed-all wide c = record { wide = wide; to = subst (IndexedTo last links) (sym (length-map links link_number)) c }
 
 -- and of its first links
 module _ (last : List ℕ) (links : List Link) (k : ℕ) (within : k ≤ length links) where
@@ -212,11 +194,6 @@ module _ (last : List ℕ) (links : List Link) (k : ℕ) (within : k ≤ length 
 
   front-same : take k (take k links) ≡ take k links
   front-same = take_all k (take k links) (omega (arith, front-len))
-
-  pub indexed-to : IsIndexed last (take k links) → IndexedTo last links k
-  indexed-to c =
-      indexed-front k (take k links) links front-same (omega (arith, front-len)) within last
-      (subst (λ (m : ℕ). IndexedTo last (take k links) m) front-len (indexed-all last (take k links) c))
 
   pub is_indexed-to : (0 < k → 0 < length last) → IndexedTo last links k → IsIndexed last (take k links)
   is_indexed-to wide c =

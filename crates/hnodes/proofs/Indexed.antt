@@ -1,6 +1,6 @@
 -- The names of attributes: where one is, and whether they differ.
-use Rattle.std.proofs.lemmas.Bool.Decides.{nat_tests}
-use Rattle.hnodes.proofs.Names.{◌≡◌, ℕ, zero, suc, ◌-◌, ◌<◌, ◌≤◌, Bool, true, cond, ltb, nat_eq, List, [], ◌∷◌, length, length-drop, map, take, drop, refl, sym, ◌∙◌, ap, arith, lt-ltb, map-append, take_all, list_any-append, list_any, Attr, Attribute, attr_numbers, attribute_of, ◌+◌, false, not, eqb, ◌++◌, get_or, subst, Vec, Global, IsTrue, names_differ, names_of}
+use Rattle.hnodes.proofs.Names.{◌≡◌, ℕ, zero, suc, ◌-◌, ◌<◌, ◌≤◌, Bool, true, cond, ltb, nat_eq, List, [], ◌∷◌, length, length-drop, map, take, drop, refl, sym, ◌∙◌, ap, arith, lt-ltb, map-append, take_all, list_any-append, list_any, Attr, Attribute, attr_numbers, attribute_of, ◌+◌, false, not, eqb, ◌++◌, get_or, subst, Vec, Global, IsTrue, names_differ, names_of, nat_tests}
+use Rattle.hnodes.specs.declared.attributes.Indexed.TheInside.{Inside}
 use Rattle.std.proofs.Common.{◌==◌, ◌||◌, ◌↔◌}
 use Rattle.std.proofs.Math.Dec.{eqb-suc-suc}
 use Rattle.std.proofs.lemmas.Bool.{le-ltb, and_parts, not-true, false_from_ne_true, false≢true, ltb-true}
@@ -14,7 +14,6 @@ use Rattle.std.specs.List.Sorted.{IsNonDecreasing, IsPermutation, IsStrictlyIncr
 use Rattle.std.specs.Ordering.{nat_cmp}
 use Rattle.std.specs.Prelude.{◌&&◌, ◌||◌, ltb}
 use Rattle.hnodes.specs.Numbered.{AreNumbered, inside_attributes}
-use Rattle.hnodes.specs.declared.attributes.Indexed.TheInside.{Inside}
 
 module _ (s : ℕ → Bool) where
   -- where it is with a number more at the front, which is sought or not

@@ -1,7 +1,7 @@
 -- The names of other crates and of specs/ that several proofs cite, in one place.
 pub use Rattle.hnodes.specs.Clean.{are_clean}
 pub use Rattle.hnodes.specs.Differing.{names_differ, names_end, names_of}
-pub use Rattle.hnodes.specs.Edits.{Nodes, AreNodes, graft_last, move_all, with_text, with_attribute, AreCounted, place_node, graft, make, IsPlace, graft_before, before_place, if_text, text_before, with_char, char_into}
+pub use Rattle.hnodes.specs.Edits.{Nodes, AreNodes, graft_last, move_all, with_text, with_attribute, AreCounted, place_node, graft, make, IsPlace, graft_before, before_place, if_text, text_before, with_char, char_into, add_chars}
 pub use Rattle.hnodes.specs.Elements.{elements_among, is_element}
 pub use Rattle.hnodes.specs.Forest.{What, document, Forest, none, tree, size, times, join, tree_at, cut, children_of, change_children, IsOutside, Attribute, change_what, put_before, roots, text, doctype, element, comment}
 pub use Rattle.hnodes.specs.Links.{parent_in, Row, Look, Linked, Loose, at_row, spliced, detached, with_place, with_ends, row_alone, whole, RowsStandIn, standing, hooked, last_in, previous_in, next_in, row_at, first_in, with_next, with_previous, is_loose, loose, with_what, with_last, after_link, before_link, with_first}
@@ -20,16 +20,18 @@ pub use Rattle.hnodes.specs.declared.store.Store.{Store}
 pub use Rattle.hnodes.specs.declared.store.StoredAttr.{StoredAttr}
 pub use Rattle.hnodes.specs.declared.tree.Tree.TheInside.{Inside}
 pub use Rattle.names.specs.declared.attr.Attr.{Attr}
-pub use Rattle.std.proofs.Common.{◌≡◌, ◌≢◌, ℕ, zero, suc, ◌+◌, ◌<◌, ◌≤◌, Bool, true, false, eqb, cond, Some, None, refl, sym, ◌∙◌, ap, subst, arith, Option, not, ◌-◌, length, get_or, List, set, Vec, Global, String, Box, ltb, if◌then◌else◌, ◌⊎◌, inl, inr, nat_eq, [], ◌∷◌, ◌++◌, length-drop, map, drop, take, option_and_then, IsSome, is_none, unwrap_or, rules, string_bytes}
-pub use Rattle.std.proofs.lemmas.Bool.{eqb-true, eq-eqb, ne_eqb, cases_lt, le-leb, lt-leb, lt-ltb, eqb-false}
-pub use Rattle.std.proofs.lemmas.Bool.Decides.{Decides-eqb}
+pub use Rattle.std.proofs.Common.{◌≡◌, ◌≢◌, ℕ, zero, suc, ◌+◌, ◌<◌, ◌≤◌, Bool, true, false, eqb, cond, Some, None, refl, sym, ◌∙◌, ap, subst, arith, Option, not, ◌-◌, length, get_or, List, set, Vec, Global, String, Box, ltb, if◌then◌else◌, ◌⊎◌, inl, inr, nat_eq, [], ◌∷◌, ◌++◌, length-drop, map, drop, take, option_and_then, IsSome, is_none, unwrap_or, rules, string_bytes, ◌||◌, ◌↔◌}
+pub use Rattle.std.proofs.lemmas.Bool.{eqb-true, eq-eqb, ne_eqb, cases_lt, le-leb, lt-leb, lt-ltb, eqb-false, cases_Bool, false≢true, le-ltb}
+pub use Rattle.std.proofs.lemmas.Bool.Decides.{Decides-eqb, nat_tests}
 pub use Rattle.std.proofs.lemmas.Grind.{common_steps}
-pub use Rattle.std.proofs.lemmas.List.{take_all, map-append, append-nil, append_assoc}
-pub use Rattle.std.proofs.lemmas.List.Elements.{All-cons, All-head, All-nil}
+pub use Rattle.std.proofs.lemmas.List.{take_all, map-append, append-nil, append_assoc, length-append, length-map}
+pub use Rattle.std.proofs.lemmas.List.Elements.{All-cons, All-head, All-nil, All-rest}
 pub use Rattle.std.proofs.lemmas.List.Folds.{list_any-append}
 pub use Rattle.std.proofs.lemmas.Result.{err_from_is_err_and}
 pub use Rattle.std.specs.Char.{encode_utf8}
-pub use Rattle.std.specs.List.{list_any, All, flat_map}
+pub use Rattle.std.specs.List.{list_any, All, flat_map, HoldsAt}
 pub use Rattle.std.specs.Option.{option_map, option_eq, option_map_or}
-pub use Rattle.std.specs.Prelude.{IsTrue, IfSome, vec_items}
+pub use Rattle.std.specs.Prelude.{IsTrue, IfSome, vec_items, OnOk, slice_get}
 pub use Rattle.std.specs.Rc.{rc_value}
+pub use Rattle.std.specs.Str.{chars}
+pub use Rattle.std.specs.List.Sorted.{IsPermutation}

@@ -1,6 +1,5 @@
 -- A vector whose last member is the nearest, and what an edit of it is in the words on lists.
-use Rattle.std.proofs.lemmas.Bool.Decides.{nat_tests}
-use Rattle.hnodes.proofs.IndexNames.{◌≡◌, ℕ, zero, suc, ◌+◌, ◌<◌, ◌≤◌, Bool, true, false, cond, not, List, [], ◌∷◌, ◌++◌, Some, None, length, get_or, set, take, drop, map, refl, sym, ◌∙◌, ap, arith, position, position_or_len, list_any, map-append, length-map, length-drop, get_or-map, before, after, without, changed, item_put_before, changed_at}
+use Rattle.hnodes.proofs.IndexNames.{◌≡◌, ℕ, zero, suc, ◌+◌, ◌<◌, ◌≤◌, Bool, true, false, cond, not, List, [], ◌∷◌, ◌++◌, Some, None, length, get_or, set, take, drop, map, refl, sym, ◌∙◌, ap, arith, position, position_or_len, list_any, map-append, length-map, length-drop, get_or-map, before, after, without, changed, item_put_before, changed_at, nat_tests}
 use Rattle.std.proofs.Common.{ltb, reverse}
 use Rattle.std.specs.List.{find, insert, remove, slice_get}
 use Rattle.std.specs.Option.{is_some, IfSome}

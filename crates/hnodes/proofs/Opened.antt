@@ -1,6 +1,5 @@
 -- What the calls of a tree have to show: what its fields say of its value, and what they say after an edit.
-use Rattle.hnodes.proofs.Names.{◌≡◌, ℕ, zero, suc, true, ltb, cond, is_none, ◌++◌, ◌<◌, ◌≤◌, List, [], ◌∷◌, Option, Some, None, length, refl, sym, ◌∙◌, ap, subst, arith, Forest, What, document, tree, none, roots, change_what, Nodes, AreNodes, Row, Look, Loose, RowsStandIn, standing, loose, is_loose, parent_in, previous_in, next_in, with_what, at_row, look_in, row_of, content_is, get_or, set, eqb, option_map, nodes_in, inside_nodes, AreKept, AreTree, Holds, IsAmong, IsGrown, IsKept, IsTree, Node, NodeData, Store, Inside, option_and_then, times, Spot, spot_of, parent_of, row_at, first_in, last_in, false, IsSome, All, IsOutside, graft_last, graft_before, detached, hooked, contents_of, IsSeenAs, IsWithin, ◌≢◌, eq-eqb, ne_eqb, lt-leb, join, tree_at, make, IsPlace, Place, LastIn, Before, row_alone, inr}
-use Rattle.std.specs.List.{HoldsAt}
+use Rattle.hnodes.proofs.Names.{◌≡◌, ℕ, zero, suc, true, ltb, cond, is_none, ◌++◌, ◌<◌, ◌≤◌, List, [], ◌∷◌, Option, Some, None, length, refl, sym, ◌∙◌, ap, subst, arith, Forest, What, document, tree, none, roots, change_what, Nodes, AreNodes, Row, Look, Loose, RowsStandIn, standing, loose, is_loose, parent_in, previous_in, next_in, with_what, at_row, look_in, row_of, content_is, get_or, set, eqb, option_map, nodes_in, inside_nodes, AreKept, AreTree, Holds, IsAmong, IsGrown, IsKept, IsTree, Node, NodeData, Store, Inside, option_and_then, times, Spot, spot_of, parent_of, row_at, first_in, last_in, false, IsSome, All, IsOutside, graft_last, graft_before, detached, hooked, contents_of, IsSeenAs, IsWithin, ◌≢◌, eq-eqb, ne_eqb, lt-leb, join, tree_at, make, IsPlace, Place, LastIn, Before, row_alone, inr, HoldsAt}
 use Rattle.std.specs.Prelude.{Result, Ok, Err, OnOk, OnErr}
 use Rattle.std.proofs.lemmas.List.{length-set}
 use Rattle.hnodes.proofs.Stored.{grown-holds}

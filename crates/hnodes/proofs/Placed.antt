@@ -1,6 +1,6 @@
 -- A new node at a place: where it is, and that a change of it changes what came there.
-use Rattle.hnodes.proofs.Names.{◌≡◌, ◌≢◌, ℕ, ◌<◌, true, false, eqb, cond, List, Option, Some, None, refl, sym, ◌∙◌, ap, subst, arith, option_and_then, IsSome, ◌⊎◌, inl, inr, eq-eqb, ne_eqb, option_map, What, text, Forest, none, tree, times, join, children_of, change_children, change_what, put_before, Spot, last_or, parent_of, last_child_of, Nodes, AreCounted, graft, IsPlace, Place, LastIn, Before}
-use Rattle.hnodes.proofs.Forests.{join-none, join-assoc, children_of-absent, change_children-absent, last_or-join}
+use Rattle.hnodes.proofs.Names.{◌≡◌, ◌≢◌, ℕ, ◌<◌, true, false, eqb, cond, List, Option, Some, None, refl, sym, ◌∙◌, ap, subst, arith, option_and_then, IsSome, ◌⊎◌, inl, inr, eq-eqb, ne_eqb, option_map, What, text, Forest, none, tree, times, join, children_of, change_what, put_before, Spot, last_or, parent_of, last_child_of, Nodes, AreCounted, graft, IsPlace, Place, LastIn, Before}
+use Rattle.hnodes.proofs.Forests.{children_of-changed, join-none, join-assoc, last_or-join}
 use Rattle.hnodes.proofs.Levels.{level, Here, Below, cut-row, tree-row}
 use Rattle.hnodes.proofs.Families.{last_child-is}
 use Rattle.hnodes.proofs.Counts.{hung, times-hung, times-put}
@@ -18,10 +18,6 @@ module _ {N : Type 0} where
   pub graft-made : (n : ℕ) (w : What N) (place : Place) (f : Forest N) → times n f ≡ 0 → graft n place (join f (tree n w none none)) ≡ placed place (tree n w none none) f
   graft-made n w (LastIn p) f h = λ i. hung p (tree-row n w none none f h i) ((cut-row n w none none f h ∙ join-none f) i)
   graft-made n w (Before s) f h = λ i. put_before s (tree-row n w none none f h i) ((cut-row n w none none f h ∙ join-none f) i)
-
-  children_of-changed : (p : ℕ) (g : Forest N → Forest N) (f : Forest N) → times p f ≡ 1 → children_of p (change_children p g f) ≡ g (children_of p f)
-  children_of-changed p g none h = absurd (omega arith)
-  children_of-changed p g (tree b w kids rest) h = grind (arith, children_of-changed p g kids, children_of-changed p g rest, change_children-absent, children_of-absent, join-none)
 
   -- What it is then.
 

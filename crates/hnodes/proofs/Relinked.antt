@@ -1,8 +1,7 @@
 -- A list of numbers that keeps where its groups are, where one number changes, or two neighbours change places.
 use Rattle.hnodes.proofs.IndexSteps.{in-group, group-of, group-less}
-use Rattle.hnodes.proofs.IndexNames.{ne_eqb, ◌≡◌, ◌≢◌, ℕ, zero, suc, ◌+◌, ◌-◌, ◌<◌, ◌≤◌, eqb, Bool, true, false, cond, List, length, get_or, set, ◌⊎◌, inl, inr, refl, sym, ◌∙◌, ap, subst, add-one, arith, cases_Bool, cases_lt, eq-eqb, false_from_ne_true, get_or-set_same, get_or-set_other, length-map, length-set, map-set, set-get_or, none, last_up, link_number, before_of, numbers_of, befores_of, is_in_group, Keep, IsIndexed, IsNext, Link, group_of, in_group_of, FitsAt, false≢true, set_comm}
+use Rattle.hnodes.proofs.IndexNames.{ne_eqb, ◌≡◌, ◌≢◌, ℕ, zero, suc, ◌+◌, ◌-◌, ◌<◌, ◌≤◌, eqb, Bool, true, false, cond, List, length, get_or, set, ◌⊎◌, inl, inr, refl, sym, ◌∙◌, ap, subst, add-one, arith, cases_Bool, cases_lt, eq-eqb, false_from_ne_true, get_or-set_same, get_or-set_other, length-map, length-set, map-set, set-get_or, none, last_up, link_number, before_of, numbers_of, befores_of, is_in_group, Keep, IsIndexed, IsNext, Link, group_of, in_group_of, FitsAt, false≢true, set_comm, cases_eq}
 use Rattle.std.proofs.Math.ListN.{get_or-map}
-use Rattle.std.proofs.lemmas.Bool.{cases_eq}
 use Rattle.hnodes.proofs.LastUp.{up-within, up-found, up-least, up-past, up-alike, up-alike-from, up-sought, up-other}
 use Rattle.std.proofs.lemmas.List.{set-set}
 
@@ -99,7 +98,7 @@ module _ (last : List ℕ) (links : List Link) (indexed : IsIndexed last links) 
   down-kept : 0 < at → (nth links (at - 1)).before ≡ last_up (is_in_group (length last) g) (numbers_of links) (at - 1)
   down-kept h =
       let within : at - 1 < length (numbers_of links) = omega (arith, length-numbers links, down-within) in
-      sym (before-at links (at - 1)) ∙ keep-at (length last) g (numbers_of links) (befores_of links) indexed.kept (at - 1) within (down-found h)
+      sym (before-at links (at - 1)) ∙ keep-at (length last) g (numbers_of links) (befores_of links) indexed.to.kept (at - 1) within (down-found h)
 
   pub down-less : 0 < at → (nth links (at - 1)).before < at
   down-less h = omega (arith, down-kept h, up-within (is_in_group (length last) g) (numbers_of links) (at - 1))
@@ -189,7 +188,7 @@ module _ (last : List ℕ) (links : List Link) (indexed : IsIndexed last links) 
   hint-number e = number (sym (number-at links (n - 1)) ∙ e)
 
   hint-up : last_up (in_group_of (length last) (get_or (numbers_of links) (n - 1) 0)) (numbers_of links) (n - 1) ≡ suc i
-  hint-up = sym (indexed.kept (n - 1) (omega (arith, length-numbers links)) hint-number) ∙ before-at links (n - 1) ∙ before ∙ add-one i
+  hint-up = sym (indexed.to.kept (n - 1) (omega (arith, length-numbers links)) hint-number) ∙ before-at links (n - 1) ∙ before ∙ add-one i
 
   hint-group : group_of (get_or (numbers_of links) i 0) (length last) ≡ group_of (get_or (numbers_of links) (n - 1) 0) (length last)
   hint-group =
@@ -252,7 +251,7 @@ module _ (last : List ℕ) (links : List Link) (x : Link) (g i next v : ℕ) (la
 
     says-at : (h : ℕ) → h < length last → get_or last2 h 0 ≡ last_up (is_in_group (length last) h) ys (length (numbers_of links))
     says-at h a =
-        keeps-on (length last) g i next (numbers_of links) ys r.differ h (length (numbers_of links)) (get_or last h 0) (get_or last2 h 0) v (inl refl) r.keeps (c.says h a)
+        keeps-on (length last) g i next (numbers_of links) ys r.differ h (length (numbers_of links)) (get_or last h 0) (get_or last2 h 0) v (inl refl) r.keeps (c.to.says h a)
         (λ same end. let none_next : next ≡ 0 = until-all (length (numbers_of links)) next (λ some. (r.differ.next_is.found some).1) end in rw (same, r.table2, eq-eqb next 0 none_next) (get_or-set_same last g v 0 r.group))
         (λ e. table-other h (other e))
       where
@@ -269,7 +268,7 @@ module _ (last : List ℕ) (links : List Link) (x : Link) (g i next v : ℕ) (la
 
     kept-other : (j : ℕ) → j < length (numbers_of links) → j ≢ i → get_or (numbers_of links) j 0 ≢ none → get_or (befores_of links3) j 0 ≡ last_up (in_group_of (length last) (get_or (numbers_of links) j 0)) ys j
     kept-other j h apart some =
-        keeps-on (length last) g i next (numbers_of links) ys r.differ own j (get_or (befores_of links) j 0) (get_or (befores_of links3) j 0) v (inr (h, in-group (length last) own (get_or (numbers_of links) j 0) some refl)) r.keeps (c.kept j h some)
+        keeps-on (length last) g i next (numbers_of links) ys r.differ own j (get_or (befores_of links) j 0) (get_or (befores_of links3) j 0) v (inr (h, in-group (length last) own (get_or (numbers_of links) j 0) some refl)) r.keeps (c.to.kept j h some)
         (λ same at. befores-at j ∙ ap (λ b. cond b v (get_or (set (befores_of links) i x.before) j 0)) (eq-eqb (suc j) next (until-next (length (numbers_of links)) next j h at)))
         (λ e. befores-other j (other e) ∙ get_or-set_other (befores_of links) i j x.before 0 apart)
       where
@@ -301,8 +300,10 @@ module _ (last : List ℕ) (links : List Link) (x : Link) (g i next v : ℕ) (la
     pub rewritten : IsIndexed last2 links3
     rewritten = record {
       wide = λ _. omega (arith, r.group, width-is);
-      says = rw (width-is, numbers-are) (λ h a. says-at h a ∙ ap (last_up (is_in_group (length last) h) ys) (sym r.differ.len));
-      kept = rw (width-is, numbers-are) kept-all;
+      to = record {
+        says = rw (width-is, numbers-are) (λ h a. says-at h a ∙ ap (last_up (is_in_group (length last) h) ys) (sym r.differ.len));
+        kept = rw (width-is, numbers-are) kept-all;
+      };
     }
 
 -- A number is taken out of a list that keeps where its groups are, or comes in where nothing is.
@@ -337,7 +338,7 @@ module _ (last : List ℕ) (links : List Link) (i next : ℕ) (o : Out last link
       group-less _ (length last) (o.indexed.wide some)
 
   out-kept : (nth links i).before ≡ last_up (in_group_of (length last) (nth links i).number) (numbers_of links) i
-  out-kept = sym (before-at links i) ∙ o.indexed.kept i out-within-numbers o.some ∙ ap (λ n. last_up (in_group_of (length last) n) (numbers_of links) i) (number-at links i)
+  out-kept = sym (before-at links i) ∙ o.indexed.to.kept i out-within-numbers o.some ∙ ap (λ n. last_up (in_group_of (length last) n) (numbers_of links) i) (number-at links i)
 
   pub out-before : (nth links i).before ≡ last_up (in_group_of (length last) (nth links i).number) (set (numbers_of links) i none) (suc i)
   out-before =

@@ -1,9 +1,7 @@
 -- What the rows say after a write, and after a push.
-use Rattle.hnodes.proofs.Names.{◌≡◌, ◌≢◌, ℕ, zero, suc, ◌<◌, List, [], ◌∷◌, ◌++◌, Some, length, get_or, set, refl, sym, ◌∙◌, ap, subst, arith, option_map, Row, at_row, row_of, look_in, contents_of, AreKept, IsAmong, IsChanged, IsGrown, IsKept, Node, NodeData, Store, eqb, cond, Option, None, Look, with_last, with_previous, with_place, after_link, before_link, spliced, detached, IsSeenAs}
-use Rattle.std.specs.List.{All, HoldsAt}
+use Rattle.hnodes.proofs.Names.{◌≡◌, ◌≢◌, ℕ, zero, suc, ◌<◌, List, [], ◌∷◌, ◌++◌, Some, length, get_or, set, refl, sym, ◌∙◌, ap, subst, arith, option_map, Row, at_row, row_of, look_in, contents_of, AreKept, IsAmong, IsChanged, IsGrown, IsKept, Node, NodeData, Store, eqb, cond, Option, None, Look, with_last, with_previous, with_place, after_link, before_link, spliced, detached, IsSeenAs, All, HoldsAt, length-map, map-append}
 use Rattle.std.proofs.Math.ListN.{get_or-map}
 use Rattle.std.proofs.Math.Seq.{map-set, map-set_same}
-use Rattle.std.proofs.lemmas.List.{length-map, map-append}
 use Rattle.std.proofs.lemmas.List.Elements.{All-push, All-set}
 use Rattle.hnodes.proofs.Stored.{grown-holds}
 

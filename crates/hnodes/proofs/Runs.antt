@@ -1,6 +1,5 @@
 -- Characters that are put one by one make one text.
-use Rattle.hnodes.proofs.Names.{◌≡◌, ℕ, ◌+◌, ◌<◌, length, List, [], ◌∷◌, ◌++◌, Some, None, refl, sym, ◌∙◌, ap, arith, encode_utf8, What, text, Forest, none, tree, join, change_what, Nodes, AreNodes, with_text, with_char, graft, IsPlace, text_before, char_into, Place}
-use Rattle.std.proofs.Common.{append_assoc, append-nil}
+use Rattle.hnodes.proofs.Names.{◌≡◌, ℕ, ◌+◌, ◌<◌, length, List, [], ◌∷◌, ◌++◌, Some, None, refl, sym, ◌∙◌, ap, arith, encode_utf8, What, text, Forest, none, tree, join, change_what, Nodes, AreNodes, with_text, with_char, graft, IsPlace, text_before, char_into, Place, append_assoc, append-nil}
 use Rattle.std.proofs.lemmas.List.{nil_from_length}
 use Rattle.std.proofs.lemmas.Str.{chars-nil, encodes-chars}
 use Rattle.std.specs.Str.{chars, encode_utf8_all, IsUtf8}

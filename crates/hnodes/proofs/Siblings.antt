@@ -1,5 +1,5 @@
 -- Walks: over siblings, over all nodes in tree order with their texts, and over the elements among siblings.
-use Rattle.hnodes.proofs.Names.{◌≡◌, ℕ, ◌<◌, ◌∷◌, Some, None, refl, sym, ◌∙◌, ap, arith, option_and_then, ◌⊎◌, inl, inr, eq-eqb, What, Forest, none, tree, roots, times, join, children_of, Spot, spot_of, first_or, first_child_of, next_of, AreCounted, siblings_from, List, [], ◌++◌, unwrap_or, All-nil, All-cons, flat_map, All, option_map, what_of, order, own_text, forest_texts, true, false, cond, length, Option, subst, All-head, elements_among, is_element, IfSome, IsTrue}
+use Rattle.hnodes.proofs.Names.{◌≡◌, ℕ, ◌<◌, ◌∷◌, Some, None, refl, sym, ◌∙◌, ap, arith, option_and_then, ◌⊎◌, inl, inr, eq-eqb, What, Forest, none, tree, roots, times, join, children_of, Spot, spot_of, first_or, first_child_of, next_of, AreCounted, siblings_from, List, [], ◌++◌, unwrap_or, All-nil, All-cons, flat_map, All, option_map, what_of, order, own_text, forest_texts, true, false, cond, length, Option, subst, All-head, elements_among, is_element, IfSome, IsTrue, slice_get}
 use Rattle.hnodes.specs.Passed.{following}
 use Rattle.hnodes.proofs.Forests.{times-join, join-assoc}
 use Rattle.hnodes.proofs.Levels.{level, Here, Below}
@@ -10,7 +10,6 @@ use Rattle.std.proofs.lemmas.Grind.{flat_map-append}
 use Rattle.std.proofs.lemmas.List.Elements.{All-append, All-drop, All-filter, All-tail}
 use Rattle.hnodes.proofs.TreeOrder.{Entered, entered}
 use Rattle.std.proofs.Math.Seq.{drop-append_seam}
-use Rattle.std.specs.Prelude.{slice_get}
 
 module _ {N : Type 0} (made : ℕ) (f : Forest N) (counted : AreCounted made f) where
   -- a child, and those after it
@@ -48,6 +47,10 @@ module _ {N : Type 0} (made : ℕ) (f : Forest N) (counted : AreCounted made f) 
             where
               low : p.parent < made
               low = was-made made f counted p.parent (omega (arith, p.one))
+
+  -- the same where they were asked for
+  pub siblings-on : (o next : Option ℕ) (n : ℕ) → o ≡ Some n → IfSome o (λ k. k < made) → next ≡ next_of n f → siblings_from o f ≡ n ∷ siblings_from next f
+  siblings-on o next n is within after = rw (is, after) (siblings-step n (subst (λ (u : Option ℕ). IfSome u (λ k. k < made)) is within))
 
 -- The nodes and the texts in tree order.
 

@@ -1,8 +1,7 @@
 -- How many nodes there are inside a node, at most.
-use Rattle.hnodes.proofs.Names.{◌≡◌, ℕ, zero, suc, ◌+◌, ◌<◌, ◌≤◌, eqb, length, refl, ap, arith, eq-eqb, eqb-false, What, Forest, none, tree, times, tree_at, children_of, size, order, AreCounted}
+use Rattle.hnodes.proofs.Names.{◌≡◌, ℕ, zero, suc, ◌+◌, ◌<◌, ◌≤◌, eqb, length, refl, ap, arith, eq-eqb, eqb-false, What, Forest, none, tree, times, tree_at, children_of, size, order, AreCounted, length-append}
 use Rattle.hnodes.proofs.Counted.{is-there, was-made, at-most}
 use Rattle.std.proofs.lemmas.Bool.{cond_both}
-use Rattle.std.proofs.lemmas.List.{length-append}
 use Rattle.hnodes.proofs.Families.{family}
 use Rattle.hnodes.proofs.Inside.{tree_at-size}
 

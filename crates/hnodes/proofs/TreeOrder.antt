@@ -1,8 +1,6 @@
 -- A walk in tree order.
 use Rattle.hnodes.proofs.Families.{first-is, first_child-is, spot-children, children-among}
-use Rattle.hnodes.proofs.Names.{◌≡◌, ℕ, ◌<◌, Bool, true, false, eqb, cond, not, List, [], ◌∷◌, ◌++◌, length, Some, None, refl, sym, ◌∙◌, ap, subst, arith, drop, option_and_then, ◌⊎◌, inl, inr, eq-eqb, append_assoc, append-nil, IfSome, IsTrue, option_map, What, Forest, none, tree, times, join, children_of, Spot, spot_of, first_or, first_child_of, next_of, parent_of, what_of, AreCounted, path_above, ancestors_of, way_up, order, after_each, is_among, ltb, tree_at, IsOutside, eqb-true, lt-ltb, cases_lt}
-use Rattle.std.proofs.Common.{◌↔◌}
-use Rattle.std.proofs.lemmas.Bool.{cases_Bool, false≢true, le-ltb}
+use Rattle.hnodes.proofs.Names.{◌≡◌, ℕ, ◌<◌, Bool, true, false, eqb, cond, not, List, [], ◌∷◌, ◌++◌, length, Some, None, refl, sym, ◌∙◌, ap, subst, arith, drop, option_and_then, ◌⊎◌, inl, inr, eq-eqb, append_assoc, append-nil, IfSome, IsTrue, option_map, What, Forest, none, tree, times, join, children_of, Spot, spot_of, first_or, first_child_of, next_of, parent_of, what_of, AreCounted, path_above, ancestors_of, way_up, order, after_each, is_among, ltb, tree_at, IsOutside, eqb-true, lt-ltb, cases_lt, ◌↔◌, cases_Bool, false≢true, le-ltb}
 use Rattle.hnodes.specs.Passed.{trees_after, inside_from}
 use Rattle.hnodes.proofs.Forests.{some_inj, times-join, join-assoc}
 use Rattle.hnodes.proofs.Inside.{top-inside}

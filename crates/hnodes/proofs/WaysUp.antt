@@ -1,7 +1,5 @@
 -- From a node to its parent, and so on.
-use Rattle.hnodes.proofs.Names.{◌≡◌, ℕ, ◌<◌, List, [], ◌∷◌, Some, None, refl, sym, ◌∙◌, ap, arith, option_and_then, unwrap_or, ◌⊎◌, inl, inr, eqb-true, eq-eqb, What, Forest, none, tree, times, join, children_of, Spot, parent_of, AreCounted, path_above, ancestors_of, way_up, is_among, tree_at, eqb, ltb, ◌≤◌, false}
-use Rattle.std.proofs.Common.{◌||◌}
-use Rattle.std.proofs.lemmas.Bool.Decides.{nat_tests}
+use Rattle.hnodes.proofs.Names.{◌≡◌, ℕ, ◌<◌, List, [], ◌∷◌, Some, None, refl, sym, ◌∙◌, ap, arith, option_and_then, unwrap_or, ◌⊎◌, inl, inr, eqb-true, eq-eqb, What, Forest, none, tree, times, join, children_of, Spot, parent_of, AreCounted, path_above, ancestors_of, way_up, is_among, tree_at, eqb, ltb, ◌≤◌, false, ◌||◌, nat_tests}
 use Rattle.hnodes.proofs.Forests.{times-join, tree_at-absent, either-none}
 use Rattle.hnodes.proofs.Inside.{tree_at-among}
 use Rattle.hnodes.proofs.Levels.{level, Here, Below}

@@ -43,14 +43,15 @@ abbrev pub Keep : (width : ℕ) → (numbers befores : List ℕ) → Type 0
 Keep width numbers befores =
     (i : ℕ) → i < length numbers → slice_index numbers i ≢ none → slice_index befores i ≡ last_up (in_group_of width (slice_index numbers i)) numbers i
 
--- a table says where each group is last
-abbrev pub SaysLast : (last numbers : List ℕ) → Type 0
-SaysLast last numbers = (g : ℕ) → g < length last → slice_index last g ≡ last_up (is_in_group (length last) g) numbers (length numbers)
+-- of the first links a table says where each group is last, and each of their numbers keeps the nearest place before it where one of its group is
+pub record IndexedTo (last : List ℕ) (links : List Link) (k : ℕ) : Type 0 where
+  pub says : (g : ℕ) → g < length last → slice_index last g ≡ last_up (is_in_group (length last) g) (numbers_of links) k
+  pub kept : (i : ℕ) → i < k → slice_index (numbers_of links) i ≢ none
+      → slice_index (befores_of links) i ≡ last_up (in_group_of (length last) (slice_index (numbers_of links) i)) (numbers_of links) i
 
 pub record IsIndexed (last : List ℕ) (links : List Link) : Type 0 where
   pub wide : 0 < length links → 0 < length last
-  pub says : SaysLast last (numbers_of links)
-  pub kept : Keep (length last) (numbers_of links) (befores_of links)
+  pub to : IndexedTo last links (length (numbers_of links))
 
 -- the same, and the places are numbers of 32 bits
 pub record AreIndexed (last : List ℕ) (links : List Link) : Type 0 where

@@ -3,7 +3,7 @@
 ghost use Rattle.std.specs.Prelude.{◌≡◌, ◌≢◌, ◌==◌, ℕ, ◌<◌, ◌≤◌, ◌+◌, ◌-◌, ◌*◌, ◌^◌, max, ◌++◌, OnOk, OnErr, [], ◌∷◌, drop, filter, if◌then◌else◌, length};
 ghost use Rattle.std.specs.Prelude.{ltb, not, slice_get, slice_index, take, true};
 ghost use Rattle.hnodes.specs.IndexedList.{last_up, none};
-ghost use Rattle.hnodes.specs.IndexLinks.{IsIndexed, Keep, befores_of, group_of, in_group_of, numbers_of};
+ghost use Rattle.hnodes.specs.IndexLinks.{IndexedTo, IsIndexed, Keep, befores_of, group_of, in_group_of, numbers_of};
 
 use std::alloc::{AllocError, Global};
 use std::marker::Model;
@@ -79,7 +79,7 @@ fn find_down(links: &[Link], from: usize, number: usize) -> usize
 fn unwind(last: &mut [u32], links: &[Link], from: usize)
     requires indexed { IsIndexed last.old links.now }
     requires within { from ≤ length links.now }
-    ensures { IsIndexed last.new (take from links.now) }
+    ensures { IndexedTo last.new links.now from }
 {
     let mut end = links.len();
     while end > from {
@@ -104,7 +104,7 @@ pub(crate) fn hint_at(links: &mut [Link], place: u32, next: u32)
 
 /// Puts the links from an index on into the table again, with the places that they have now.
 fn rewind(last: &mut [u32], links: &mut [Link], from: usize)
-    requires indexed { IsIndexed last.old (take from links.old) }
+    requires indexed { IndexedTo last.old links.old from }
     requires within { from ≤ length links.old }
     requires places { length links.old < 2 ^ 32 }
     requires wide { 0 < length links.old → 0 < length last.old }

@@ -180,17 +180,13 @@ pub(crate) enum Given<'a> {
 
 /// What a node holds that is given this.
 #[inline(always)]
-pub(crate) fn content(
-    given: Given,
-    store: &mut Store,
-    alloc: Global,
-) -> Result<NodeData, AllocError>
+pub(crate) fn content(given: Given, store: &mut Store) -> Result<NodeData, AllocError>
     ensures content { IfOk result (λ c. Holds store.new c (given_is given.entry)) }
     ensures grown { IsGrown store.old store.new }
 {
     match given {
-        Given::Doctype(texts) => Ok(NodeData::Doctype(Box::new(alloc, texts)?)),
-        Given::Element(name, attrs) => element(name, attrs, store, alloc),
+        Given::Doctype(texts) => Ok(NodeData::Doctype(Box::new(store.alloc, texts)?)),
+        Given::Element(name, attrs) => element(name, attrs, store),
         Given::Sharing(name, attrs) => Ok(sharing(name, attrs)),
         Given::Copied(name, attrs) => match stored(attrs.as_slice(), store)? {
             Some(run) => Ok(NodeData::Element(name, run)),
@@ -198,23 +194,18 @@ pub(crate) fn content(
         },
         Given::Comment(text) => match store.texts.add(&text)? {
             Some(run) => Ok(NodeData::Comment(run)),
-            None => Ok(NodeData::LongComment(Box::new(alloc, text)?)),
+            None => Ok(NodeData::LongComment(Box::new(store.alloc, text)?)),
         },
         Given::Text(text) => match store.texts.add(text)? {
             Some(run) => Ok(NodeData::Text(run)),
-            None => long_text("", text, alloc),
+            None => long_text("", text, store.alloc),
         },
     }
 }
 
 /// An element with these attributes, which leave the list.
 #[inline(always)]
-fn element(
-    name: NameId,
-    attrs: &mut Vec<Attr>,
-    store: &mut Store,
-    alloc: Global,
-) -> Result<NodeData, AllocError>
+fn element(name: NameId, attrs: &mut Vec<Attr>, store: &mut Store) -> Result<NodeData, AllocError>
     ensures content { IfOk result (λ c. Holds store.new c (element name (map attribute_of attrs.old.items))) }
     ensures grown { IsGrown store.old store.new }
 {
@@ -225,7 +216,7 @@ fn element(
         attrs.clear();
         return Ok(NodeData::Element(name, run));
     }
-    wide(name, taken(attrs, alloc)?, alloc)
+    wide(name, taken(attrs, store.alloc)?, store.alloc)
 }
 
 /// The run of attributes that are added to the store, if they are few and it has room for them.
@@ -277,7 +268,6 @@ pub(crate) fn add_text(
     content: &mut NodeData,
     more: &str,
     store: &mut Store,
-    alloc: Global,
 ) -> Result<(), AllocError>
     requires { IsKept store.old content.old }
     ensures ok { OnOk result (Holds store.new content.new (with_text more.now (content_is store.old content.old))) }
@@ -287,7 +277,7 @@ pub(crate) fn add_text(
     match content {
         NodeData::Text(run) => match store.lengthen(*run, more)? {
             Some(longer) => *run = longer,
-            None => *content = long_text(store.texts.get(*run), more, alloc)?,
+            None => *content = long_text(store.texts.get(*run), more, store.alloc)?,
         },
         NodeData::Long(text) => text.push_str(more)?,
         _ => {}
@@ -296,12 +286,7 @@ pub(crate) fn add_text(
 }
 
 /// Adds an attribute at the end of an element's, which get a list of their own.
-pub(crate) fn add_attr(
-    content: &mut NodeData,
-    attr: Attr,
-    store: &Store,
-    alloc: Global,
-) -> Result<(), AllocError>
+pub(crate) fn add_attr(content: &mut NodeData, attr: Attr, store: &Store) -> Result<(), AllocError>
     requires { IsKept store.now content.old }
     ensures ok { OnOk result (Holds store.now content.new (with_attribute (attribute_of attr) (content_is store.now content.old))) }
     ensures err { OnErr result (Holds store.now content.new (content_is store.now content.old)) }
@@ -309,12 +294,16 @@ pub(crate) fn add_attr(
     match content {
         NodeData::Element(name, run) => {
             let name = *name;
-            *content = wide(name, with(store.attrs(*run), attr, alloc)?, alloc)?;
+            *content = wide(
+                name,
+                with(store.attrs(*run), attr, store.alloc)?,
+                store.alloc,
+            )?;
         }
         NodeData::Wide(_, indexed) => indexed.push(attr)?,
         NodeData::Shared(name, list) => {
             let name = *name;
-            *content = wide(name, with(list.attrs(), attr, alloc)?, alloc)?;
+            *content = wide(name, with(list.attrs(), attr, store.alloc)?, store.alloc)?;
         }
         _ => {}
     }

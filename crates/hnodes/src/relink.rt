@@ -74,11 +74,7 @@ fn take_out(last: &mut [u32], links: &mut [Link], index: usize) -> Link
         return links[index];
     }
     let hint = above(last, links, index);
-    links[index] = Link {
-        number: NONE as u64,
-        before: 0,
-        hint: 0,
-    };
+    links[index].number = NONE as u64;
     let group = group_of(number as usize, last.len());
     keep(last, links, group, hint, before);
     hint_at(links, before, hint);
@@ -129,20 +125,15 @@ fn swap_at(last: &mut [u32], links: &mut [Link], index: usize)
     if low == high {
         return;
     }
-    let first = take_out(last, links, index);
+    let mut link = take_out(last, links, index);
     let second = take_out(last, links, index + 1);
     put_in(last, links, index, second);
     let width = last.len();
-    let same = is_grouped(first.number, second.number, width);
-    let link = if same {
-        Link {
-            number: first.number,
-            before: index as u32 + 1,
-            hint: second.hint,
-        }
-    } else {
-        first
-    };
+    let same = is_grouped(link.number, second.number, width);
+    if same {
+        link.before = index as u32 + 1;
+        link.hint = second.hint;
+    }
     put_in(last, links, index + 1, link);
 }
 

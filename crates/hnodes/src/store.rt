@@ -148,6 +148,7 @@ fn fill_up(filled: &mut Vec<u8>, end: usize) -> Result<(), AllocError>
 pub(crate) struct Store {
     pub(crate) texts: Texts,
     attrs: Vec<StoredAttr>,
+    pub(crate) alloc: Global,
 }
 
 impl Store {
@@ -159,6 +160,7 @@ impl Store {
                 count: 0,
             },
             attrs: Vec::new(alloc),
+            alloc,
         }
     }
 

@@ -31,7 +31,6 @@ pub struct Tree {
     nodes: Vec<Node>,
     store: Store,
     limit: u32,
-    alloc: Global,
 }
 
 // Written out: a derived drop is read anew in the proof of each function that may drop a tree.
@@ -41,7 +40,6 @@ impl Drop for Tree {
             nodes,
             store,
             limit: _,
-            alloc: _,
         } = self;
         drop(nodes);
         drop(store);
@@ -75,7 +73,6 @@ impl Tree {
             nodes,
             store: Store::new(alloc),
             limit,
-            alloc,
         })
     }
 
@@ -205,7 +202,7 @@ impl Tree {
             return Err(Refusal::TooManyNodes { at });
         }
         let number = self.nodes.len() as u32;
-        let content = node::content(given, &mut self.store, self.alloc)?;
+        let content = node::content(given, &mut self.store)?;
         self.nodes.push(Node::loose(content))?;
         Ok(NodeId { number })
     }
@@ -240,13 +237,8 @@ impl Tree {
         let node = &self.nodes[sibling.number as usize];
         let (parent, previous) = (node.parent, node.previous);
         if let Some(parent) = parent.get() {
-            hook(
-                &mut self.nodes,
-                child,
-                parent,
-                previous,
-                NodeLink::to(sibling),
-            );
+            let next = NodeLink::to(sibling);
+            hook(&mut self.nodes, child, parent, previous, next);
         }
     }
 
@@ -328,7 +320,6 @@ impl Tree {
             &mut self.nodes[node.number as usize].content,
             text,
             &mut self.store,
-            self.alloc,
         )
     }
 
@@ -361,7 +352,6 @@ impl Tree {
             &mut self.nodes[node.number as usize].content,
             attr,
             &self.store,
-            self.alloc,
         )?;
         Ok(())
     }

@@ -1,8 +1,6 @@
-use Rattle.hnodes.proofs.Names.{◌≡◌, subst, rules, names_of}
-use Rattle.std.specs.List.Sorted.{IsPermutation}
+use Rattle.hnodes.proofs.Names.{◌≡◌, subst, rules, names_of, IsPermutation, ltb}
 use Rattle.std.proofs.lemmas.Fn.{always_returns_same}
 use Rattle.std.proofs.lemmas.List.Sorted.{IsNonDecreasingBy-from_sort}
-use Rattle.std.specs.Prelude.{ltb}
 use Rattle.hnodes.proofs.Indexed.{differ-is, rising}
 use Rattle.hnodes.proofs.attributes.differ.Goals as goal
 

@@ -1,6 +1,6 @@
-use Rattle.hnodes.proofs.IndexNames.{◌≡◌, ℕ, ◌+◌, ◌<◌, length, get_or, set, ap, sym, ◌∙◌, subst, refl, arith, get_or_default, get_or-set_same, length-set, map-set_same, link_number, Link}
+use Rattle.hnodes.proofs.IndexNames.{◌≡◌, ℕ, ◌+◌, ◌<◌, length, get_or, set, ap, sym, ◌∙◌, subst, refl, arith, get_or_default, get_or-set_same, length-set, map-set_same, link_number, Link, IndexedTo}
 use Rattle.std.proofs.lemmas.List.{take-set-le}
-use Rattle.hnodes.proofs.IndexSteps.{IndexedTo, is_indexed-all, indexed-to, indexed-front, indexed_to-same, says-le, more-none, more-some}
+use Rattle.hnodes.proofs.IndexSteps.{is_indexed-all, indexed-front, indexed_to-same, says-le, more-none, more-some}
 use Rattle.hnodes.proofs.indexed_list.rewind.Goals as goal
 use Rattle.hnodes.proofs.indexed_list.rewind.Goals.{then-number-ne-NONE, else-number-ne-NONE}
 
@@ -10,7 +10,7 @@ nothing = record { number = 0; before = 0; hint = 0 }
 pub loop-index-init : goal.loop-index-init
 loop-index-init c = record {
   within = c.requires.within;
-  indexed = indexed-to c.args.last.now c.args.links.now c.args.from c.requires.within c.requires.indexed;
+  indexed = c.requires.indexed;
   same = refl;
 }
 

@@ -1,5 +1,4 @@
-use Rattle.hnodes.proofs.IndexNames.{◌≡◌, ◌≤◌, length, numbers_of}
-use Rattle.hnodes.proofs.IndexSteps.{IndexedTo}
+use Rattle.hnodes.proofs.IndexNames.{◌≡◌, ◌≤◌, length, numbers_of, IndexedTo}
 use Rattle.hnodes.proofs.indexed_list.rewind.Given as goal
 
 abbrev pub invariant-loop-index : goal.invariant-loop-index

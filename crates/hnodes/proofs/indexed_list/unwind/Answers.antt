@@ -1,5 +1,5 @@
-use Rattle.hnodes.proofs.IndexNames.{◌≡◌, ℕ, ◌-◌, ◌<◌, length, get_or, subst, arith, get_or_default, Link}
-use Rattle.hnodes.proofs.IndexSteps.{IndexedTo, is_indexed-to, less-none, less-some}
+use Rattle.hnodes.proofs.IndexNames.{◌≡◌, ◌-◌, ◌<◌, length, get_or, subst, arith, get_or_default, Link, IndexedTo}
+use Rattle.hnodes.proofs.IndexSteps.{less-none, less-some}
 use Rattle.hnodes.proofs.indexed_list.unwind.Goals as goal
 
 abbrev nothing : Link
@@ -34,7 +34,5 @@ loop-end-preserved c =
 
 pub returns : goal.returns
 returns c =
-    let links = c.args.links.now in
     let is : c.loop-end.end ≡ c.args.from = omega arith in
-    let to : IndexedTo c.loop-end.last links c.args.from = subst (λ (m : ℕ). IndexedTo c.loop-end.last links m) is c.loop-end.invariant.indexed in
-    is_indexed-to c.loop-end.last links c.args.from c.requires.within (λ some. omega (arith, c.requires.indexed.wide (omega arith))) to
+    subst (IndexedTo c.loop-end.last c.args.links.now) is c.loop-end.invariant.indexed

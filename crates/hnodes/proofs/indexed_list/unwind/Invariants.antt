@@ -1,5 +1,4 @@
-use Rattle.hnodes.proofs.IndexNames.{◌≤◌, ◌-◌, length}
-use Rattle.hnodes.proofs.IndexSteps.{IndexedTo}
+use Rattle.hnodes.proofs.IndexNames.{◌≤◌, ◌-◌, length, IndexedTo}
 use Rattle.hnodes.proofs.indexed_list.unwind.Given as goal
 
 abbrev pub invariant-loop-end : goal.invariant-loop-end

@@ -1,5 +1,4 @@
-use Rattle.hnodes.proofs.Names.{◌≡◌, Some, None, refl, sym, ◌∙◌}
-use Rattle.hnodes.specs.Links.{with_first, with_next}
+use Rattle.hnodes.proofs.Names.{◌≡◌, Some, None, refl, sym, ◌∙◌, with_first, with_next}
 use Rattle.hnodes.proofs.Rows.{changed}
 use Rattle.hnodes.proofs.links.link_after.Goals as goal
 

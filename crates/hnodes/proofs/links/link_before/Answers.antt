@@ -1,5 +1,4 @@
-use Rattle.hnodes.proofs.Names.{◌≡◌, Some, None, refl, sym, ◌∙◌}
-use Rattle.hnodes.specs.Links.{with_last, with_previous}
+use Rattle.hnodes.proofs.Names.{◌≡◌, Some, None, refl, sym, ◌∙◌, with_last, with_previous}
 use Rattle.hnodes.proofs.Rows.{changed}
 use Rattle.hnodes.proofs.links.link_before.Goals as goal
 

@@ -1,5 +1,4 @@
-use Rattle.hnodes.proofs.IndexNames.{cases_Bool, ◌≡◌, ◌+◌, ◌-◌, ◌<◌, ℕ, List, eqb, cond, length, get_or, set, refl, ◌∙◌, ap, arith, map-set_same, get_or-set_same, get_or-set_other, map-set, length-map, link_number, before_of, befores_of}
-use Rattle.std.proofs.lemmas.Bool.Decides.{nat_tests}
+use Rattle.hnodes.proofs.IndexNames.{cases_Bool, ◌≡◌, ◌+◌, ◌-◌, ◌<◌, ℕ, List, eqb, cond, length, get_or, set, refl, ◌∙◌, ap, arith, map-set_same, get_or-set_same, get_or-set_other, map-set, length-map, link_number, before_of, befores_of, nat_tests}
 use Rattle.hnodes.proofs.relink.keep.Goals as goal
 
 pub returns-then-next-gt0-clause-numbers : goal.returns-then-next-gt0-clause-numbers

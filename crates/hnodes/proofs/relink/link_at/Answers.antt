@@ -8,7 +8,7 @@ loop-before-init c =
     let wide : 0 < length c.args.last.now = c.requires.are_indexed.indexed.wide (omega arith) in
     record {
       within = omega (arith, length-numbers c.args.links.now);
-      is = ap (λ g. get_or c.args.last.now g 0) c.group_of.ensures.group ∙ c.requires.are_indexed.indexed.says _ (group-less c.args.number (length c.args.last.now) wide);
+      is = ap (λ g. get_or c.args.last.now g 0) c.group_of.ensures.group ∙ c.requires.are_indexed.indexed.to.says _ (group-less c.args.number (length c.args.last.now) wide);
       found = λ some. absurd (omega arith);
     }
 

@@ -2,10 +2,14 @@ use Rattle.hnodes.proofs.IndexNames.{◌≡◌, ℕ, List, length, set, refl, sy
 use Rattle.hnodes.proofs.Relinked.{nth, rewritten, number-at, is-some, set-known, Out, out-differ, out-group, out-before, out-within, out-fit}
 use Rattle.hnodes.proofs.relink.take_out.Goals as goal
 
+-- a link once its number is taken out
+abbrev gone : Link → Link
+gone x = record x { number = 1 }
+
 pub hint_at-requires : goal.hint_at-requires
 hint_at-requires c =
     let o : Out c.args.last.now c.args.links.now c.args.index c.above-hint.result = record { indexed = c.requires.are_indexed.indexed; within = c.requires.within; some = is-some c.args.links.now c.args.index c.if-number.false; next_is = c.above-hint.ensures } in
-    omega (arith, c.keep.auto.links, length-set c.args.links.now c.args.index (record { number = 1; before = 0; hint = 0 }), out-within c.args.last.now c.args.links.now c.args.index c.above-hint.result o)
+    omega (arith, c.keep.auto.links, length-set c.args.links.now c.args.index (gone (nth c.args.links.now c.args.index)), out-within c.args.last.now c.args.links.now c.args.index c.above-hint.result o)
 
 pub returns-clause-are_indexed : goal.returns-clause-are_indexed
 returns-clause-are_indexed c =
@@ -13,7 +17,7 @@ returns-clause-are_indexed c =
     let old : Link = nth c.args.links.now c.args.index in
     record {
       indexed =
-          rewritten c.args.last.now c.args.links.now (record { number = 1; before = 0; hint = 0 }) (group_of old.number (length c.args.last.now)) c.args.index c.above-hint.result old.before c.keep.new.last c.keep.new.links
+          rewritten c.args.last.now c.args.links.now (gone (nth c.args.links.now c.args.index)) (group_of old.number (length c.args.last.now)) c.args.index c.above-hint.result old.before c.keep.new.last c.keep.new.links
           c.hint_at.new.links (record {
             differ = out-differ c.args.last.now c.args.links.now c.args.index c.above-hint.result o;
             group = out-group c.args.last.now c.args.links.now c.args.index c.above-hint.result o;
@@ -25,17 +29,17 @@ returns-clause-are_indexed c =
             here = λ ne. absurd (ne refl);
             keeps = out-before c.args.last.now c.args.links.now c.args.index c.above-hint.result o;
           }) c.requires.are_indexed.indexed;
-      fits = omega (arith, c.requires.are_indexed.fits, c.keep.auto.links, c.hint_at.auto.links, length-set c.args.links.now c.args.index (record { number = 1; before = 0; hint = 0 }));
+      fits = omega (arith, c.requires.are_indexed.fits, c.keep.auto.links, c.hint_at.auto.links, length-set c.args.links.now c.args.index (gone (nth c.args.links.now c.args.index)));
     }
 
 pub returns-clause-numbers : goal.returns-clause-numbers
-returns-clause-numbers c = c.hint_at.ensures.numbers ∙ c.keep.ensures.numbers ∙ map-set link_number c.args.links.now c.args.index (record { number = 1; before = 0; hint = 0 })
+returns-clause-numbers c = c.hint_at.ensures.numbers ∙ c.keep.ensures.numbers ∙ map-set link_number c.args.links.now c.args.index (gone (nth c.args.links.now c.args.index))
 
 pub returns-clause-fit : goal.returns-clause-fit
 returns-clause-fit c = λ some.
     let x : Link = record { number = (nth c.args.links.now c.args.index).number; before = (nth c.args.links.now c.args.index).before; hint = c.above-hint.result } in
     let ys : numbers_of c.hint_at.new.links ≡ set (numbers_of c.args.links.now) c.args.index none =
-    c.hint_at.ensures.numbers ∙ c.keep.ensures.numbers ∙ map-set link_number c.args.links.now c.args.index (record { number = 1; before = 0; hint = 0 }) in
+    c.hint_at.ensures.numbers ∙ c.keep.ensures.numbers ∙ map-set link_number c.args.links.now c.args.index (gone (nth c.args.links.now c.args.index)) in
     subst (λ (w : ℕ). FitsAt w (numbers_of c.hint_at.new.links) c.args.index x) (sym c.keep.auto.last)
     (subst (λ (ns : List ℕ). FitsAt (length c.args.last.now) ns c.args.index x) (sym ys)
     (out-fit c.args.last.now c.args.links.now c.args.index c.above-hint.result

@@ -1,6 +1,5 @@
-use Rattle.hnodes.proofs.Names.{◌≡◌, ◌∷◌, subst, rules, IsText, StoredAttr}
+use Rattle.hnodes.proofs.Names.{◌≡◌, ◌∷◌, subst, rules, IsText, StoredAttr, All-rest}
 use Rattle.hnodes.specs.AttrsView.{AreLent}
-use Rattle.std.proofs.lemmas.List.Elements.{All-rest}
 use Rattle.hnodes.proofs.attrs_view.AttrsIterator.next.Goals as goal
 
 pub invariant_of-self : goal.invariant_of-self

@@ -1,8 +1,9 @@
-use Rattle.hnodes.proofs.IndexNames.{◌≡◌, ℕ, ◌+◌, ◌-◌, ◌≤◌, ◌==◌, not, List, length, take, drop, ◌++◌, ap, sym, ◌∙◌, subst, arith, with_items_is, Bool, [], ◌∷◌, refl, take-append-le, map-append, take-map, length-take-le, length-drop, length-map, filter, none, link_number, numbers_of, IsIndexed, Link, map}
-use Rattle.std.proofs.lemmas.List.{take_rest, drop-map, length-append}
+use Rattle.hnodes.proofs.IndexNames.{◌≡◌, ℕ, ◌+◌, ◌-◌, ◌≤◌, ◌==◌, not, List, length, take, drop, ◌++◌, ap, sym, ◌∙◌, subst, arith, with_items_is, Bool, [], ◌∷◌, refl, take-append-le, map-append, take-map, length-take-le, length-drop, length-map, filter, none, link_number, numbers_of, Link, map, IndexedTo}
+use Rattle.std.proofs.lemmas.List.{length-take, take_rest, drop-map, length-append}
 use Rattle.std.specs.Vec.{with_items}
 use borrow.Rule.Slice.PartMut.{post_of}
 use Rattle.hnodes.proofs.Borrowed.{borrowed}
+use Rattle.hnodes.proofs.IndexSteps.{indexed-front}
 use Rattle.std.proofs.Math.Seq.{take-append-add, take-take}
 use Rattle.hnodes.proofs.indexed_list.IndexedList.compact.Goals as goal
 
@@ -92,4 +93,6 @@ rewind-requires-clause-indexed c =
     let last = c.deref_mut-3.ensures.value ∙ with_items_is c.self.inside.last c.unwind.new.last (c.unwind.auto.last ∙ c.deref_mut.ensures.len) in
     let front : take from c.deref_mut-4.result.now ≡ take from c.deref.result.now =
     ap (take from) left ∙ front-of from kept all (tail ++ end) within ∙ ap (take from) (same ∙ sym c.deref.ensures.value) in
-    subst (λ (xs : List ℕ). IsIndexed xs (take from c.deref_mut-4.result.now)) (sym last) (subst (λ (ys : List Link). IsIndexed c.unwind.new.last ys) (sym front) c.unwind.ensures)
+    let in_old : from ≤ length c.deref.result.now = omega (arith, within, ap length same, ap length c.deref.ensures.value) in
+    let in_new : from ≤ length c.deref_mut-4.result.now = omega (arith, ap length front, length-take-le from c.deref.result.now in_old, length-take from c.deref_mut-4.result.now) in
+    subst (λ (xs : List ℕ). IndexedTo xs c.deref_mut-4.result.now from) (sym last) (indexed-front from c.deref.result.now c.deref_mut-4.result.now (sym front) in_old in_new c.unwind.new.last c.unwind.ensures)

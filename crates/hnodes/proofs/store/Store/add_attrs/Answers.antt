@@ -1,5 +1,4 @@
-use Rattle.hnodes.proofs.Names.{attribute_of, rules, sym}
-use Rattle.std.proofs.lemmas.List.{length-map}
+use Rattle.hnodes.proofs.Names.{attribute_of, rules, sym, length-map}
 use Rattle.hnodes.proofs.Stored.{added-run}
 use Rattle.hnodes.proofs.store.Store.add_attrs.Goals as goal
 

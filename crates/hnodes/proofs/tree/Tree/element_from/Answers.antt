@@ -1,22 +1,15 @@
-use Rattle.hnodes.proofs.Names.{◌≡◌, ◌<◌, ◌∷◌, ◌∙◌, ap, sym, subst, arith, false, length, Option, ℕ, IfSome, elements_among, is_element, siblings_from}
+use Rattle.hnodes.proofs.Names.{◌≡◌, ◌∙◌, ap, sym, arith, false, length, elements_among, is_element, siblings_from}
 use Rattle.std.specs.Prelude.{is_some}
-use Rattle.hnodes.proofs.Siblings.{element-none, siblings-step}
+use Rattle.hnodes.proofs.Siblings.{element-none, siblings-on}
 use Rattle.hnodes.proofs.tree.Tree.element_from.Goals as goal
 
 pub loop-next-smaller : goal.loop-next-smaller
 loop-next-smaller c =
-    let within : c.in-Some.node < c.args.self.now.made = subst (λ (o : Option ℕ). IfSome o (λ n. n < c.args.self.now.made)) c.in-Some.is c.loop-next.invariant.within in
-    let step : siblings_from c.loop-next.next c.args.self.now.trees ≡ c.in-Some.node ∷ siblings_from c.next-next.result c.args.self.now.trees =
-    ap (λ o. siblings_from o c.args.self.now.trees) c.in-Some.is ∙ siblings-step c.args.self.now.made c.args.self.now.trees c.next-next.ensures.nodes.counted c.in-Some.node within
-    ∙ ap (λ o. c.in-Some.node ∷ siblings_from o c.args.self.now.trees) (sym c.next-next.ensures.sibling) in
-    omega (arith, ap length step)
+    omega (arith, ap length (siblings-on c.args.self.now.made c.args.self.now.trees c.next-next.ensures.nodes.counted c.loop-next.next c.next-next.result c.in-Some.node c.in-Some.is c.loop-next.invariant.within c.next-next.ensures.sibling))
 
 pub loop-next-preserved : goal.loop-next-preserved
 loop-next-preserved c =
-    let within : c.in-Some.node < c.args.self.now.made = subst (λ (o : Option ℕ). IfSome o (λ n. n < c.args.self.now.made)) c.in-Some.is c.loop-next.invariant.within in
-    let step : siblings_from c.loop-next.next c.args.self.now.trees ≡ c.in-Some.node ∷ siblings_from c.next-next.result c.args.self.now.trees =
-    ap (λ o. siblings_from o c.args.self.now.trees) c.in-Some.is ∙ siblings-step c.args.self.now.made c.args.self.now.trees c.next-next.ensures.nodes.counted c.in-Some.node within
-    ∙ ap (λ o. c.in-Some.node ∷ siblings_from o c.args.self.now.trees) (sym c.next-next.ensures.sibling) in
+    let step = siblings-on c.args.self.now.made c.args.self.now.trees c.next-next.ensures.nodes.counted c.loop-next.next c.next-next.result c.in-Some.node c.in-Some.is c.loop-next.invariant.within c.next-next.ensures.sibling in
     let other : is_element c.args.self.now.trees c.in-Some.node ≡ false = ap is_some (sym c.name.ensures) ∙ sym c.is_some.ensures ∙ c.if-is_some.false in
     record {
       within = c.next-next.ensures.within;

@@ -1,5 +1,4 @@
-use Rattle.hnodes.proofs.Names.{◌∙◌, ap, sym, elements_among, siblings_from}
-use Rattle.std.specs.Prelude.{slice_get}
+use Rattle.hnodes.proofs.Names.{◌∙◌, ap, sym, elements_among, siblings_from, slice_get}
 use Rattle.hnodes.proofs.Siblings.{element-at_first, children-from}
 use Rattle.hnodes.proofs.tree.Tree.first_element_child.Goals as goal
 

@@ -19,13 +19,13 @@ pub invariant_of-self : goal.invariant_of-self
 invariant_of-self c =
     let g = gone c.self.inside c.args.self.now c.detach.new.nodes.items c.args.child c.args.sibling c.sibling.inside.number c.index-node.result.now c.self.view_is c.self.invariant c.requires.child_in
     c.requires.sibling_in c.requires.not_inside c.detach.ensures c.sibling.view_is c.index-node.ensures in
-    edited g.was (inserted g c.hook.new.nodes.items c.requires.not_document c.in-Some.parent c.to.result (sym c.get.ensures ∙ c.in-Some.is) c.to.ensures c.hook.ensures)
+    edited g.was (inserted g c.hook.new.nodes.items c.requires.not_document c.in-Some.parent c.to-next.result (sym c.get.ensures ∙ c.in-Some.is) c.to-next.ensures c.hook.ensures)
 
 pub returns-in-Some : goal.returns-in-Some
 returns-in-Some c =
     let g = gone c.self.inside c.args.self.now c.detach.new.nodes.items c.args.child c.args.sibling c.sibling.inside.number c.index-node.result.now c.self.view_is c.self.invariant c.requires.child_in
     c.requires.sibling_in c.requires.not_inside c.detach.ensures c.sibling.view_is c.index-node.ensures in
-    edited_view g.was (inserted g c.hook.new.nodes.items c.requires.not_document c.in-Some.parent c.to.result (sym c.get.ensures ∙ c.in-Some.is) c.to.ensures c.hook.ensures)
+    edited_view g.was (inserted g c.hook.new.nodes.items c.requires.not_document c.in-Some.parent c.to-next.result (sym c.get.ensures ∙ c.in-Some.is) c.to-next.ensures c.hook.ensures)
 
 -- the sibling has a parent
 pub invariant_of-self-in_default : goal.invariant_of-self-in_default

@@ -1,8 +1,5 @@
-use Rattle.hnodes.proofs.Names.{◌≡◌, ◌∷◌, [], List, ℕ, ap, sym, ◌∙◌, subst, append-nil, encode_utf8}
-use Rattle.std.specs.Prelude.{OnOk}
-use Rattle.std.specs.Str.{chars}
+use Rattle.hnodes.proofs.Names.{◌≡◌, ◌∷◌, [], List, ℕ, ap, sym, ◌∙◌, subst, append-nil, encode_utf8, OnOk, chars, add_chars}
 use Rattle.std.proofs.lemmas.Str.{chars-nil, chars_past_char}
-use Rattle.hnodes.specs.Edits.{add_chars}
 use Rattle.hnodes.proofs.tree.Tree.put_char.Goals as goal
 
 pub returns-clause-ok : goal.returns-clause-ok

@@ -1,12 +1,11 @@
-use Rattle.hnodes.proofs.Names.{ap, sym, ◌∙◌, ◌<◌, ◌∷◌, length, subst, Option, ℕ, rules, IfSome, siblings_from}
-use Rattle.hnodes.proofs.Siblings.{siblings-step}
+use Rattle.hnodes.proofs.Names.{ap, sym, ◌∙◌, length, rules}
+use Rattle.hnodes.proofs.Siblings.{siblings-on}
 use Rattle.hnodes.proofs.walks.ChildrenIterator.next.Goals as goal
 
 pub returns-clause-steps : goal.returns-clause-steps
 returns-clause-steps c =
-    let within : c.in_ok-node.node < c.self.inside.tree.now.made = subst (λ (o : Option ℕ). IfSome o (λ n. n < c.self.inside.tree.now.made)) c.in_ok-node.was c.self.invariant in
-    let step = siblings-step c.self.inside.tree.now.made c.self.inside.tree.now.trees c.next-self-inside.ensures.nodes.counted c.in_ok-node.node within in
-    sym c.self.view_is ∙ ap (λ o. siblings_from o c.self.inside.tree.now.trees) c.in_ok-node.was ∙ step ∙ ap (λ o. c.in_ok-node.node ∷ siblings_from o c.self.inside.tree.now.trees) (sym c.next-self-inside.ensures.sibling)
+    sym c.self.view_is ∙ siblings-on c.self.inside.tree.now.made c.self.inside.tree.now.trees c.next-self-inside.ensures.nodes.counted c.self.inside.next _ c.in_ok-node.node c.in_ok-node.was c.self.invariant
+    c.next-self-inside.ensures.sibling
 
 pub returns-clause-goes : goal.returns-clause-goes
 returns-clause-goes c = let shorter = ap length (returns-clause-steps c) in search rules
