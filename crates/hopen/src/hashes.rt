@@ -20,21 +20,15 @@ fn feed_name(keys: Keys, name: NameId) -> DefaultHasher
     hasher
 }
 
-fn hash_attr(keys: Keys, attr: &Attr) -> u64
-    ensures { result ≡ hash_of keys (attribute_of attr.now) }
-{
-    let mut hasher = feed_name(keys, attr.name());
-    hasher.write(attr.value().as_bytes());
-    hasher.finish()
-}
-
 /// The hashes of attributes, each once, the least one first.
 fn hash_attrs(alloc: Global, keys: Keys, attrs: &[Attr]) -> Result<Vec<u64>, AllocError>
     ensures { IfOk result (λ hashes. hashes.items ≡ distinct (map (hash_of keys) (map attribute_of attrs.now))) }
 {
     let mut hashes = Vec::new(alloc);
     for attr in attrs {
-        hashes.push(hash_attr(keys, attr))?;
+        let mut hasher = feed_name(keys, attr.name());
+        hasher.write(attr.value().as_bytes());
+        hashes.push(hasher.finish())?;
     }
     hashes.sort_unstable();
     hashes.dedup();
