@@ -1,14 +1,11 @@
 -- A search in a list by the numbers of its members, where what is sought has one number.
-use Rattle.hopen.proofs.Names.{◌≡◌, ℕ, zero, suc, ◌+◌, ◌-◌, ◌<◌, ◌≤◌, ◌==◌, eqb, Bool, true, false, ◌||◌, List, [], ◌∷◌, length, map, take, get_or, refl, sym, ◌∙◌, ap, arith, list_any, last_up, nat_tests, list_any_more, or-false}
+use Rattle.hopen.proofs.Names.{common_steps, ◌≡◌, ℕ, zero, suc, ◌-◌, ◌<◌, ◌≤◌, ◌==◌, eqb, Bool, true, false, ◌||◌, List, [], ◌∷◌, length, map, take, get_or, refl, sym, ap, arith, list_any, last_up, nat_tests, list_any_more, or-false}
 
 module _ {X : Type 0} (sought : X → Bool) where
   -- a member that isn't sought is not missed
   pub any-less : (xs : List X) (p : ℕ) (x : X) → 0 < p → p ≤ length xs → x ≡ get_or xs (p - 1) x → sought x ≡ false
       → list_any sought (take (p - 1) xs) ≡ list_any sought (take p xs)
-  any-less xs p x some within is other =
-      let last : (p - 1) + 1 ≡ p = omega arith in
-      sym (or-false (list_any sought (take (p - 1) xs))) ∙ ap (λ v. list_any sought (take (p - 1) xs) || v) (sym other ∙ ap sought is)
-      ∙ sym (list_any_more sought xs (p - 1) x (omega arith)) ∙ ap (λ k. list_any sought (take k xs)) last
+  any-less xs p x some within is other = grind (arith, common_steps, nat_tests, list_any_more, or-false)
 
   module _ (number : X → ℕ) (n : ℕ) (law : (x : X) → sought x ≡ true → number x ≡ n) where
     not-sought : (x : X) → eqb (number x) n ≡ false → sought x ≡ false

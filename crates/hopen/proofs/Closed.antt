@@ -1,5 +1,5 @@
 -- The holes of a list taken out, and the numbers of what is left.
-use Rattle.hopen.proofs.Names.{◌≡◌, ℕ, ◌+◌, ◌<◌, ◌≤◌, ◌==◌, Bool, true, false, not, cond, eqb, is_some, List, [], ◌∷◌, ◌++◌, length, get_or, take, drop, set, map, filter, refl, sym, ◌∙◌, ap, arith, subst, All, swap, not-true, append-nil, append_assoc, drop-map, drop-set-lt, length-append, length-take-le, map-append, take-map, swap_is, All-append, All-drop, All-get_or, All-head, All-tail, All-take, filter-append, entry_hash, none, EntryOf, IsStored, is_gone, item_of, AreSlotsListed, by_hash, by_name, by_node, number_by, numbers_by, unless_hole, Stored, Slots, nat_tests, between, drop_more, get_or-append_right, take-set-le, take_more, between_more, length-swap, swapped_from_swap, All-filter, filter_passes}
+use Rattle.hopen.proofs.Names.{common_steps, ◌≡◌, ℕ, ◌+◌, ◌<◌, ◌≤◌, ◌==◌, Bool, true, false, not, cond, eqb, is_some, List, [], ◌∷◌, ◌++◌, length, get_or, take, drop, set, map, filter, refl, sym, ◌∙◌, ap, arith, subst, All, swap, not-true, append-nil, append_assoc, drop-map, drop-set-lt, length-append, length-take-le, map-append, take-map, swap_is, All-append, All-drop, All-get_or, All-head, All-tail, All-take, filter-append, entry_hash, none, EntryOf, IsStored, is_gone, item_of, AreSlotsListed, by_hash, by_name, by_node, number_by, numbers_by, unless_hole, Stored, Slots, nat_tests, between, drop_more, get_or-append_right, take-set-le, take_more, between_more, length-swap, swapped_from_swap, All-filter, filter_passes}
 use Rattle.hopen.specs.declared.entry.Slot.TheVariants as stored
 use Rattle.hopen.proofs.Moved.{NoHoleFrom}
 
@@ -24,11 +24,7 @@ module _ (of : EntryOf ℕ → ℕ) where
 
   pub numbers-closed : (items : List Stored) (from : ℕ) (ns : List ℕ) → All IsStored items → ns ≡ map number items
       → take from ns ++ filter (λ n. not (n == none)) (drop from ns) ≡ map number (closed items from)
-  numbers-closed items from ns all are =
-      ap (λ l. take from l ++ filter (λ n. not (n == none)) (drop from l)) are
-      ∙ (λ k. take-map number from items k ++ filter (λ n. not (n == none)) (drop-map number from items k))
-      ∙ ap (λ l. map number (take from items) ++ l) (numbers-stay (drop from items) (All-drop IsStored from items all))
-      ∙ sym (map-append number (take from items) (filter stays (drop from items)))
+  numbers-closed items from ns all are = grind (arith, common_steps, nat_tests, drop-map, map-append, numbers-stay, take-map)
 
 solid-closed : (items : List Stored) (from : ℕ) → from ≤ length items → NoHoleFrom from (closed items from)
 solid-closed items from h k above l x = grind (arith, length-take-le, length-append, not-true, get_or-append_right, All-get_or, filter_passes)
@@ -67,11 +63,7 @@ module _ (from end index : ℕ) (old items : List Stored) (is : IsTaken from end
   next = get_or items index stored.Hole
 
   next-same : (next ≡ get_or old index stored.Hole) × (drop (index + 1) items ≡ drop (index + 1) old)
-  next-same =
-      let here : drop index items ≡ next ∷ drop (index + 1) items = drop_more items index stored.Hole (omega (arith, is.size)) in
-      let was : drop index old ≡ get_or old index stored.Hole ∷ drop (index + 1) old = drop_more old index stored.Hole h in
-      let both : next ∷ drop (index + 1) items ≡ get_or old index stored.Hole ∷ drop (index + 1) old = sym here ∙ is.rest ∙ was in
-      (cc, cc)
+  next-same = grind (arith, common_steps, nat_tests, drop_more)
 
   kept-more : filter stays (between from (index + 1) old) ≡ filter stays (between from index old) ++ filter stays (next ∷ [])
   kept-more =

@@ -1,5 +1,5 @@
 -- Slots of a stack that change places, leave and come, in the words on what they hold.
-use Rattle.hopen.proofs.Names.{◌≡◌, ◌≢◌, ℕ, zero, suc, ◌+◌, ◌-◌, ◌<◌, ◌≤◌, Bool, List, [], ◌∷◌, ◌++◌, Option, Some, None, length, map, reverse, take, drop, insert, get_or, set, inl, inr, refl, sym, ◌∙◌, ap, arith, cases_eq, cases_lt, append_assoc, append_cancel_left, drop-drop, drop-set-lt, get_or-set_other, get_or-set_same, length-append, length-insert, length-map, length-reverse, length-set, length-take-le, map-id, reverse-append, set-get_or, set-set, set_split, position, insert_nearest, exchanged, holds_one, last_place, last_place-le, opened_by, item_put_before, slots_of, somes, stack_of, EndsOpen, KeptNode, OpenNode}
+use Rattle.hopen.proofs.Names.{nat_tests, common_steps, ◌≡◌, ◌≢◌, ℕ, zero, suc, ◌+◌, ◌-◌, ◌<◌, ◌≤◌, Bool, List, [], ◌∷◌, ◌++◌, Option, Some, None, length, map, reverse, take, drop, insert, get_or, set, refl, sym, ◌∙◌, ap, arith, cases_eq, cases_lt, append_assoc, append_cancel_left, drop-drop, drop-set-lt, get_or-set_other, get_or-set_same, length-append, length-insert, length-map, length-reverse, length-set, length-take-le, map-id, reverse-append, set-get_or, set-set, set_split, position, insert_nearest, exchanged, holds_one, last_place, last_place-le, opened_by, item_put_before, slots_of, somes, stack_of, EndsOpen, KeptNode, OpenNode}
 use Rattle.hopen.proofs.Held.{some≢none}
 use Rattle.hopen.proofs.OpenLevels.{IsPlaced}
 use Rattle.hopen.proofs.Somes.{put-somes, reverse-somes, somes-append}
@@ -50,10 +50,7 @@ module _ {X : Type 0} where
 -- a slot is written, as the nearest first
 module _ {X : Type 0} where
   pub reverse-set : (zs : List X) (i : ℕ) (z : X) → i < length zs → reverse (set zs i z) ≡ reverse (drop (suc i) zs) ++ z ∷ reverse (take i zs)
-  reverse-set zs i z h =
-      ap reverse (set_split zs i z h) ∙ reverse-append (take i zs) (z ∷ drop (suc i) zs)
-      ∙ ap (λ l. l ++ reverse (take i zs)) (reverse-append (z ∷ []) (drop (suc i) zs))
-      ∙ append_assoc (reverse (drop (suc i) zs)) (z ∷ []) (reverse (take i zs))
+  reverse-set zs i z h = grind (arith, common_steps, nat_tests, append_assoc, reverse-append, set_split)
 
   -- what is not nearer than the place of one that is sought
   put-at : (s : X → Bool) (n : X) (xs : List X) (y : X) (us vs : List X) → last_place s (xs ++ y ∷ us) ≡ suc (length us)
@@ -96,20 +93,10 @@ module _ {X : Type 0} where
 -- the last slot still is no hole
 pub ends-exchanged : (ys : List (Option (OpenNode ℕ))) (i j : ℕ) → i < j → j < length ys → get_or ys i None ≢ None → EndsOpen ys
     → EndsOpen (exchanged i j None ys)
-ends-exchanged ys i j less within live ends = λ k many none.
-    let long : length ys ≡ suc k = sym (exchanged-length i j None ys) ∙ many in
-    elim (cases_lt j k) [
-      | inl more ↦ ends k long (sym (exchanged-apart i j None ys k (λ e. absurd (omega arith)) (λ e. absurd (omega arith))) ∙ none)
-      | inr past ↦ let at : j ≡ k = omega arith in live (sym (exchanged-lower i j None ys within) ∙ ap (λ m. get_or (exchanged i j None ys) m None) at ∙ none)
-    ]
+ends-exchanged ys i j less within live ends = grind (arith, common_steps, nat_tests, cases_lt, exchanged-apart, exchanged-length, exchanged-lower)
 
 pub ends-set : (ys : List (Option (OpenNode ℕ))) (i : ℕ) (x : OpenNode ℕ) → i < length ys → EndsOpen ys → EndsOpen (set ys i (Some x))
-ends-set ys i x within ends = λ k many none.
-    elim (cases_eq k i) [
-      | inl here ↦ some≢none x (get_or (set ys i (Some x)) k None)
-          (ap (λ m. get_or (set ys i (Some x)) m None) here ∙ get_or-set_same ys i (Some x) None within) none
-      | inr ne ↦ ends k (sym (length-set ys i (Some x)) ∙ many) (sym (get_or-set_other ys i k (Some x) None ne) ∙ none)
-    ]
+ends-set ys i x within ends = grind (arith, common_steps, nat_tests, cases_eq, get_or-set_other, get_or-set_same, length-set, some≢none)
 
 -- where one comes
 module _ {X : Type 0} (x : X) where

@@ -1,5 +1,5 @@
 -- What is open in a slot.
-use Rattle.hopen.proofs.Names.{◌≡◌, ◌≢◌, ℕ, ◌<◌, Bool, true, false, cond, List, Option, Some, None, length, map, get_or, refl, ap, arith, get_or-map, is_hole_kind, opened_by, open_of, KeptNode, kept_kind, may_stay_open, tag_of, ◌∙◌, IsBelow, LastLevels, Open, OpenNode}
+use Rattle.hopen.proofs.Names.{nat_tests, common_steps, ◌≡◌, ◌≢◌, ℕ, ◌<◌, true, false, cond, List, Option, Some, None, length, map, get_or, ap, arith, get_or-map, is_hole_kind, opened_by, open_of, KeptNode, kept_kind, ◌∙◌, IsBelow, LastLevels, Open, OpenNode}
 
 pub held : (x : KeptNode) → is_hole_kind x.kind ≡ false → opened_by x ≡ Some (open_of x.opened)
 held x e = ap (λ v. cond v None (Some (open_of x.opened))) e
@@ -11,22 +11,14 @@ pub some≢none : {X : Type 0} (x : X) (o : Option X) → o ≡ Some x → o ≢
 some≢none x o e f = absurd (grind arith)
 
 pub is-held : (x : KeptNode) → opened_by x ≢ None → is_hole_kind x.kind ≡ false
-is-held x ne = go (is_hole_kind x.kind) refl
-  where
-    go : (v : Bool) → is_hole_kind x.kind ≡ v → is_hole_kind x.kind ≡ false
-    go true e = absurd (ne (no-node x e))
-    go false e = e
+is-held x ne = grind (arith, common_steps, nat_tests, no-node)
 
 pub opened-at : (items : List KeptNode) (i : ℕ) (d : KeptNode) → i < length items → get_or (map opened_by items) i None ≡ opened_by (get_or items i d)
 opened-at items i d h = get_or-map opened_by items i d None h
 
 -- the kind of a slot with a node is no hole's
 pub kind-held : (y : OpenNode ℕ) → is_hole_kind (kept_kind (Some y)) ≡ false
-kind-held y = go (may_stay_open (tag_of y.name)) refl
-  where
-    go : (v : Bool) → may_stay_open (tag_of y.name) ≡ v → is_hole_kind (kept_kind (Some y)) ≡ false
-    go true e = rw e refl
-    go false e = rw e refl
+kind-held y = grind (arith, common_steps, nat_tests)
 
 -- the slot of a node right below others
 pub below-held : (last : LastLevels) (ys : List (Option (OpenNode ℕ))) (n : ℕ) (new : Open) (x : KeptNode) → IsBelow last ys n new x

@@ -1,5 +1,5 @@
 -- An entry that jumps to where a hole is, and leaves one.
-use Rattle.hopen.proofs.Names.{◌≡◌, ◌≢◌, ℕ, zero, suc, ◌<◌, true, false, false≢true, cases_lt, inl, inr, List, [], ◌∷◌, ◌++◌, length, get_or, set, take, drop, sym, ◌∙◌, ap, arith, All, list_any, remove, is_some, append-nil, get_or-set_other, get_or-set_same, length-set, All-append, All-drop, All-get_or, All-take, for_node, is_entry, AreSlots, IsStored, is_gone, is_listed_hole, item_of, listed_items, live, nowhere, stored_entry, item_put_before, Stored}
+use Rattle.hopen.proofs.Names.{nat_tests, common_steps, ◌≡◌, ◌≢◌, ℕ, zero, suc, ◌<◌, true, false, false≢true, cases_lt, List, [], ◌∷◌, ◌++◌, length, get_or, set, take, drop, sym, ◌∙◌, ap, arith, All, list_any, remove, is_some, append-nil, get_or-set_other, get_or-set_same, length-set, All-append, All-drop, All-get_or, All-take, for_node, is_entry, AreSlots, IsStored, is_gone, is_listed_hole, item_of, listed_items, live, nowhere, stored_entry, item_put_before, Stored}
 use Rattle.hopen.specs.declared.entry.Slot.TheVariants as stored
 use Rattle.hopen.proofs.Holes.{gone-is, live-parts, slots-are}
 use Rattle.hopen.proofs.Live.{any-live, is_hole-for_node, spares-node}
@@ -8,11 +8,7 @@ use Rattle.hopen.proofs.Moved.{NoHoleFrom, exchanged, remove-set}
 
 -- a hole is before the index from which on there is none
 pub hole-before : (xs : List Stored) (solid i : ℕ) → NoHoleFrom solid xs → i < length xs → is_gone (get_or xs i stored.Hole) ≡ true → i < solid
-hole-before xs solid i none within gone = elim (cases_lt i solid) [
-  | inl less ↦ less
-  | inr past ↦ absurd
-      (false≢true (sym (none i past within stored.Hole) ∙ gone))
-]
+hole-before xs solid i none within gone = grind (arith, common_steps, nat_tests, cases_lt, false≢true)
 
 -- nothing is lost with a hole
 without-hole : (xs : List Stored) (i : ℕ) → i < length xs → is_gone (get_or xs i stored.Hole) ≡ true → live (listed_items (remove xs i)) ≡ live (listed_items xs)

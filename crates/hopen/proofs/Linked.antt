@@ -1,5 +1,5 @@
 -- A table of the levels where numbers are last, and what the members of their list keep, as members come and go.
-use Rattle.hopen.proofs.Names.{eq-eqb, ne_eqb, ◌≡◌, ◌≢◌, ℕ, zero, suc, ◌<◌, ◌≤◌, eqb, Bool, true, cond, List, [], ◌∷◌, length, map, reverse, get_or, set, inl, inr, refl, sym, ◌∙◌, ap, subst, arith, cases_Bool, cases_eq, cases_lt, eqb-suc-zero, eqb-zero-suc, get_or-set_same, get_or-set_other, get_or_past, length-map, last_up, last_place, last_same, up-sought, up-other, up-alike, IsLinked, IsLinkedTo, nat_tests, reverse-map}
+use Rattle.hopen.proofs.Names.{common_steps, eq-eqb, ne_eqb, ◌≡◌, ◌≢◌, ℕ, zero, suc, ◌<◌, ◌≤◌, eqb, Bool, true, cond, List, [], ◌∷◌, length, map, reverse, get_or, set, inl, inr, refl, sym, ◌∙◌, ap, subst, arith, cases_Bool, cases_eq, cases_lt, eqb-suc-zero, eqb-zero-suc, get_or-set_same, get_or-set_other, get_or_past, length-map, last_up, last_place, last_same, up-sought, up-other, up-alike, IsLinked, IsLinkedTo, nat_tests, reverse-map}
 use Rattle.hopen.proofs.IndexSteps.{last-is}
 
 pub eqb-same : (n : ℕ) → eqb n n ≡ true
@@ -52,10 +52,7 @@ module _ (t ns bs : List ℕ) (n : ℕ) where
   -- in lists that begin alike
   pub linked-front : (ms cs : List ℕ) → ((j : ℕ) → j < n → get_or ms j 0 ≡ get_or ns j 0) → ((j : ℕ) → j < n → get_or cs j 0 ≡ get_or bs j 0)
       → IsLinkedTo n t ns bs → IsLinkedTo n t ms cs
-  linked-front ms cs numbers befores l = record {
-    says = λ k. l.says k ∙ sym (up-alike (numbered k) ns ms n (λ j h. ap (numbered k) (numbers j h)));
-    kept = λ j h. befores j h ∙ l.kept j h ∙ sym (same-alike ns ms j (λ m le. numbers m (omega arith)));
-  }
+  linked-front ms cs numbers befores l = grind (arith, common_steps, nat_tests, same-alike, up-alike)
 
   -- what holds of the first members, and of the next one, holds of all of them
   kept-next : ((j : ℕ) → j < n → get_or bs j 0 ≡ last_same ns j) → get_or bs n 0 ≡ last_same ns n → (j : ℕ) → j < suc n → get_or bs j 0 ≡ last_same ns j
@@ -81,23 +78,14 @@ module _ (t ns bs : List ℕ) (n : ℕ) where
     up-apart k ne = up-other (numbered k) ns n (ap (numbered k) member ∙ ne_eqb (suc a) (suc k) (λ e. ne (omega arith)))
 
     pub linked-more : a < length t → get_or bs n 0 ≡ get_or t a 0 → IsLinkedTo n t ns bs → IsLinkedTo (suc n) (set t a (suc n)) ns bs
-    linked-more within is l = record {
-      says = λ k. either (λ m. get_or (set t a (suc n)) m 0 ≡ last_up (numbered m) ns (suc n)) a k (get_or-set_same t a (suc n) 0 within ∙ sym up-here)
-          (λ ne. get_or-set_other t a k (suc n) 0 ne ∙ l.says k ∙ sym (up-apart k ne));
-      kept = kept-next l.kept (is ∙ l.says a ∙ sym (same-member ns n a member));
-    }
+    linked-more within is l = grind (arith, common_steps, nat_tests, either, get_or-set_other, get_or-set_same, kept-next, same-member, up-apart, up-here)
 
     module _ (l : IsLinkedTo (suc n) t ns bs) where
       pub linked-in : a < length t
       linked-in = elim (cases_lt a (length t)) [ inl less ↦ less | inr past ↦ absurd (omega (arith, l.says a, up-here, get_or_past t a 0 past)) ]
 
       pub linked-less : IsLinkedTo n (set t a (get_or bs n 0)) ns bs
-      linked-less = record {
-        says = λ k. either (λ m. get_or (set t a (get_or bs n 0)) m 0 ≡ last_up (numbered m) ns n) a k
-            (get_or-set_same t a (get_or bs n 0) 0 linked-in ∙ l.kept n (omega arith) ∙ same-member ns n a member)
-            (λ ne. get_or-set_other t a k (get_or bs n 0) 0 ne ∙ l.says k ∙ up-apart k ne);
-        kept = λ j h. l.kept j (omega arith);
-      }
+      linked-less = grind (arith, common_steps, nat_tests, either, get_or-set_other, get_or-set_same, linked-in, same-member, up-apart)
 
 -- the same in the words of the nearest first
 pub place-map : {X Y : Type 0} (f : X → Y) (s : Y → Bool) (xs : List X) → last_place s (map f xs) ≡ last_place (λ x. s (f x)) xs

@@ -1,6 +1,6 @@
 -- Exchanges in a list and what a run of them does; an entry that becomes that of another node, and where an entry
 -- is among the others.
-use Rattle.hopen.proofs.Names.{map-set_same, ◌≡◌, ◌≢◌, ℕ, zero, suc, ◌+◌, ◌-◌, ◌<◌, ◌≤◌, ◌==◌, ◌⊎◌, inl, Bool, true, false, IsTrue, List, [], ◌∷◌, ◌++◌, Option, Some, is_some, length, get_or, set, take, drop, map, reverse, refl, sym, ◌∙◌, ap, arith, subst, All, insert, list_any, position, remove, swap, swap_is, length-swap, drop-set-lt, get_or-map, get_or-set_other, length-append, length-reverse, length-set, length-take-le, map-set, reverse-append, All-get_or, All-set, last_up, none, EntryOf, for_node, is_entry, IsStored, is_gone, item_of, listed_items, nowhere, moved_entry, stored_entry, DefaultHasher, AreSlotsListed, by_hash, by_name, by_node, number_by, numbers_by, changed_at, item_put_before, last_place, Stored, Slots, reverse-map, set_nearest, last_place-le, nat_tests, get_or-set_same, set-set, take-set, insert_nearest, position_nearest, position-none, position-some}
+use Rattle.hopen.proofs.Names.{common_steps, map-set_same, ◌≡◌, ◌≢◌, ℕ, zero, suc, ◌+◌, ◌-◌, ◌<◌, ◌≤◌, ◌==◌, ◌⊎◌, inl, Bool, true, false, IsTrue, List, [], ◌∷◌, ◌++◌, Option, Some, is_some, length, get_or, set, take, drop, map, reverse, refl, sym, ◌∙◌, ap, arith, subst, All, insert, list_any, position, remove, swap, swap_is, length-swap, drop-set-lt, get_or-map, get_or-set_other, length-append, length-reverse, length-set, length-take-le, map-set, reverse-append, All-get_or, All-set, last_up, none, EntryOf, for_node, is_entry, IsStored, is_gone, item_of, listed_items, nowhere, moved_entry, stored_entry, DefaultHasher, AreSlotsListed, by_hash, by_name, by_node, number_by, numbers_by, changed_at, item_put_before, last_place, Stored, Slots, reverse-map, set_nearest, last_place-le, nat_tests, get_or-set_same, set-set, take-set, insert_nearest, position_nearest, position-none, position-some}
 use Rattle.hopen.specs.declared.entry.Slot.TheVariants as stored
 use Rattle.hopen.proofs.ExchangedSlots.{reverse-set}
 use Rattle.hopen.proofs.Holes.{node-is, slots-are}
@@ -113,10 +113,7 @@ module _ (node : ℕ) where
     same-by f same = map-set_same f items i (moved_entry node there) stored.Hole same
 
     renewed-solid : (solid : ℕ) → NoHoleFrom solid items → NoHoleFrom solid now
-    renewed-solid solid all k from l x =
-        let within : k < length items = omega (arith, length-set items i (moved_entry node there)) in
-        sym (get_or-map is_gone now k x true l) ∙ ap (λ bs. get_or bs k true) (same-by is_gone (renamed-gone there))
-        ∙ get_or-map is_gone items k x true within ∙ all k from within x
+    renewed-solid solid all k from l x = grind (arith, common_steps, nat_tests, get_or-map, length-set, renamed-gone, same-by)
 
     -- its place in the list, as that is seen from the last item on
     pub renewed-items : listed_items now ≡ changed_at (length items - 1 - i) (for_node node) (listed_items items)
@@ -210,8 +207,4 @@ pub moved-after : (node mark : ℕ) (items : List Stored) (i to : ℕ) (y : Stor
     → to ≡ last_place (λ x. is_entry mark (item_of x)) (reverse (remove items i)) → IsTrue (list_any (is_entry mark) (listed_items (remove items i)))
     → listed_items (insert (remove (set items i y) i) to (get_or (set items i y) i stored.Hole))
     ≡ item_put_before (is_entry mark) (for_node node (item_of (get_or items i stored.Hole))) (listed_items (remove items i))
-moved-after node mark items i to y within entry new is there =
-    ap listed_items (ap (λ l. insert l to (get_or (set items i y) i stored.Hole)) (remove-set items i y)
-    ∙ ap (insert (remove items i) to) (get_or-set_same items i y stored.Hole within ∙ new))
-    ∙ insert-after mark (remove items i) (moved_entry node (get_or items i stored.Hole)) to is there
-    ∙ ap (λ x. item_put_before (is_entry mark) x (listed_items (remove items i))) (renamed-item node (get_or items i stored.Hole) entry)
+moved-after node mark items i to y within entry new is there = grind (arith, common_steps, nat_tests, get_or-set_same, insert-after, remove-set, renamed-item)

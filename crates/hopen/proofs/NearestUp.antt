@@ -1,15 +1,11 @@
 -- The nearest node of a set among the first slots.
-use Rattle.hopen.proofs.Names.{◌≡◌, ◌≢◌, ℕ, zero, suc, ◌<◌, Bool, true, false, cond, List, Option, Some, None, get_or, refl, sym, ◌∙◌, ap, arith, true≢false, nearest_in, nearest_up, is_special, tag_of, OpenNode, NameSet, holds}
+use Rattle.hopen.proofs.Names.{nat_tests, common_steps, ◌≡◌, ◌≢◌, ℕ, zero, suc, ◌<◌, false, cond, List, Option, Some, None, get_or, refl, sym, ◌∙◌, ap, arith, true≢false, nearest_in, nearest_up, is_special, tag_of, OpenNode, NameSet, holds}
 use Rattle.hopen.proofs.AllSpecial.{special}
 use Rattle.hopen.proofs.Linked.{either}
 
 -- a name that is not special is in no set
 pub not-in : (set : NameSet) (n : ℕ) → is_special (tag_of n) ≡ false → holds set n ≡ false
-not-in set n plain = go (holds set n) (special set (tag_of n))
-  where
-    go : (v : Bool) → (v ≡ true → is_special (tag_of n) ≡ true) → v ≡ false
-    go true h = absurd (true≢false (sym (h refl) ∙ plain))
-    go false h = refl
+not-in set n plain = grind (arith, common_steps, nat_tests, special, true≢false)
 
 module _ (set : NameSet) where
   -- a node that is not special makes no difference

@@ -1,5 +1,5 @@
 -- What is seen of the open nodes after an edit of their vector.
-use Rattle.hopen.proofs.Names.{◌≢◌, None, ◌≡◌, ℕ, suc, ◌<◌, ◌≤◌, Bool, List, [], ◌∷◌, Some, None, length, map, reverse, set, refl, sym, ◌∙◌, ap, subst, arith, length-map, length-set, without, changed, last_place, position, position-none, no_words, item_put_before, somes, holds_one, slots_of, stack_of, OpenNode, OpenNodes, opened_by, open_nodes_of, KeptNode, LastLevels, Inside, LevelsStand, Rests, EndsOpen, gap, get_or, sum_by, sum_by-set}
+use Rattle.hopen.proofs.Names.{nat_tests, common_steps, ◌≢◌, None, ◌≡◌, ℕ, suc, ◌<◌, ◌≤◌, Bool, List, [], ◌∷◌, Some, None, length, map, reverse, set, refl, sym, ◌∙◌, ap, subst, arith, length-map, length-set, without, changed, last_place, position, position-none, no_words, item_put_before, somes, holds_one, slots_of, stack_of, OpenNode, OpenNodes, opened_by, open_nodes_of, KeptNode, LastLevels, Inside, LevelsStand, Rests, get_or, sum_by-set}
 use Rattle.hopen.proofs.ExchangedSlots.{ends-set}
 use Rattle.hopen.proofs.OpenLevels.{set-placed, IsPlaced}
 use Rattle.hopen.proofs.Somes.{changed-somes, left-somes}
@@ -8,10 +8,7 @@ use Rattle.hopen.proofs.Trimmed.{gap-live, stack-holes}
 pub seen : (s : Inside) (n : OpenNodes ℕ) (word : List (OpenNode ℕ) → List (OpenNode ℕ)) (items : List KeptNode) → open_nodes_of s ≡ n
     → stack_of items ≡ word (stack_of s.items.items)
     → ◌≡◌ {A = OpenNodes ℕ} (record { limit = s.limit; stack = stack_of items }) (record { limit = n.limit; stack = word n.stack })
-seen s n word items e h =
-    let P : OpenNodes ℕ → Type 0 = λ m. ◌≡◌ {A = OpenNodes ℕ} (record { limit = s.limit; stack = stack_of items })
-    (record { limit = m.limit; stack = word m.stack }) in
-    subst P e (ap (λ (l : List (OpenNode ℕ)). record { limit = s.limit; stack = l }) h)
+seen s n word items e h = grind (arith, common_steps, nat_tests)
 
 -- an edit that finds nothing leaves all as it is
 pub kept : (s : Inside) (n : OpenNodes ℕ) (word : List (OpenNode ℕ) → List (OpenNode ℕ)) → open_nodes_of s ≡ n
@@ -58,19 +55,4 @@ pub rests-replaced : (items new : List KeptNode) (i : ℕ) (y : OpenNode ℕ) (l
     → get_or (map opened_by items) i None ≢ None → map opened_by new ≡ set (map opened_by items) i (Some y) → LevelsStand next new → next.holes ≡ last.holes
     → Rests next new
 rests-replaced items new i y last next r within live is stands holes =
-    let same : length (map opened_by items) ≡ length items = length-map items opened_by in
-    let many : length new ≡ length items = sym (length-map new opened_by) ∙ ap length is ∙ length-set (map opened_by items) i (Some y) ∙ same in
-    record {
-      stands = stands;
-      ends = subst EndsOpen (sym is) (ends-set (map opened_by items) i y (omega arith) r.ends);
-      holes = omega (
-        arith,
-        r.holes,
-        ap (sum_by gap) is,
-        sum_by-set gap (map opened_by items) i (Some y) None (omega arith),
-        gap-live (get_or (map opened_by items) i None) live,
-        stack-holes items,
-        stack-holes new,
-      );
-      levels = omega (arith, r.levels);
-    }
+    grind (arith, common_steps, nat_tests, ends-set, gap-live, length-map, length-set, stack-holes, sum_by-set)

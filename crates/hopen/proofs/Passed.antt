@@ -1,5 +1,5 @@
 -- What is kept of the open nodes where one passes the next one below it.
-use Rattle.hopen.proofs.Names.{◌≡◌, ◌≢◌, ℕ, zero, suc, ◌<◌, ◌≤◌, false, List, Option, Some, None, length, map, get_or, set, ◌⊎◌, inl, inr, sym, ◌∙◌, ap, subst, transport, arith, cases_eq, cases_lt, get_or_default, get_or-set_same, get_or-set_other, length-map, length-set, map-set, closing, exchanged, is_hole_kind, kept_kind_at, kept_kind, open_name, slot_names, open_node, slot_nodes, nearest_in, nearest_up, opened_by, same_name_of, same_node_of, sets_at, set_node, AreHoles, CanPass, IsLinked, KeepSets, KeptNode, LastLevels, NameSet, OpenNode, SetNodes, LevelsStand, is_special, tag_of, sum_by, sum_by-set}
+use Rattle.hopen.proofs.Names.{nat_tests, common_steps, ◌≡◌, ◌≢◌, ℕ, zero, suc, ◌<◌, ◌≤◌, false, List, Option, Some, None, length, map, get_or, set, ◌⊎◌, inl, inr, sym, ◌∙◌, ap, subst, transport, arith, cases_eq, cases_lt, get_or_default, get_or-set_same, get_or-set_other, length-map, length-set, map-set, closing, exchanged, is_hole_kind, kept_kind_at, kept_kind, open_name, slot_names, open_node, slot_nodes, nearest_in, nearest_up, opened_by, same_name_of, same_node_of, sets_at, set_node, AreHoles, CanPass, IsLinked, KeepSets, KeptNode, LastLevels, NameSet, OpenNode, SetNodes, LevelsStand, is_special, tag_of, sum_by, sum_by-set}
 use Rattle.hopen.specs.declared.kept.Kind.TheVariants as kind
 use Rattle.std.proofs.Math.ListN.{get_or-map}
 use Rattle.hopen.proofs.Held.{some≢none}
@@ -96,12 +96,7 @@ module _ (ys : List (Option (OpenNode ℕ))) (i j : ℕ) (x y : OpenNode ℕ) (l
 pub sum-exchanged : {X : Type 0} (f : X → ℕ) (xs : List X) (i j : ℕ) (d : X) → i < j → j < length xs → sum_by f (exchanged i j d xs) ≡ sum_by f xs
 sum-exchanged f xs i j d less within =
     let other : get_or (set xs i (get_or xs j d)) j d ≡ get_or xs j d = get_or-set_other xs i j (get_or xs j d) d (λ e. absurd (omega arith)) in
-    omega (
-      arith,
-      sum_by-set f xs i (get_or xs j d) d (omega arith),
-      sum_by-set f (set xs i (get_or xs j d)) j (get_or xs i d) d (omega (arith, length-set xs i (get_or xs j d))),
-      ap f other,
-    )
+    grind (arith, common_steps, nat_tests, get_or-set_other, length-set, sum_by-set)
 
 module _ (last : LastLevels) (items : List KeptNode) (i j : ℕ) (s : LevelsStand last items) (p : CanPass last items i j) (x y : KeptNode)
     (first : x ≡ get_or items i x) (second : y ≡ get_or items j y) where

@@ -1,7 +1,7 @@
 -- What the items of a vector keep, by index.
-use Rattle.hopen.proofs.Names.{get_or-map as map-at, ◌≡◌, ℕ, zero, suc, ◌<◌, ◌≤◌, true, false, List, length, map, get_or, set, Option, Some, None, inl, inr, refl, sym, ◌∙◌, ap, arith, cases_lt, length-map, get_or_past, get_or-set_other, get_or_default, map-set, map-set_same, exchanged, is_hole_kind, slot_names, open_name, slot_nodes, open_node, open_of, opened_by, same_name_of, IsHeldLevel, IsLinked, KeptNode, OpenNode}
+use Rattle.hopen.proofs.Names.{get_or-map as map-at, ◌≡◌, ℕ, zero, suc, ◌<◌, ◌≤◌, true, false, List, length, map, get_or, set, Option, Some, None, inl, inr, refl, sym, ◌∙◌, ap, arith, cases_lt, length-map, get_or_past, get_or-set_other, map-set, map-set_same, is_hole_kind, slot_names, open_name, slot_nodes, open_node, open_of, opened_by, same_name_of, IsHeldLevel, IsLinked, KeptNode, OpenNode}
 use Rattle.std.proofs.Math.ListN.{get_or-map}
-use Rattle.hopen.proofs.Held.{held, is-held, no-node, some≢none}
+use Rattle.hopen.proofs.Held.{held, no-node}
 use Rattle.hopen.proofs.Swapped.{walk-in}
 
 module _ (items : List KeptNode) where
@@ -19,15 +19,6 @@ module _ {Y : Type 0} (f : KeptNode → Y) (d : Y) (items : List KeptNode) (i : 
 pub part-of : {X Y : Type 0} (g : X → Y) (f : KeptNode → X) (d : Y) (items : List KeptNode) (i : ℕ) (x : KeptNode) → i < length items → x ≡ get_or items i x
     → get_or (map g (map f items)) i d ≡ g (f x)
 part-of g f d items i x h is = map-at g (map f items) i (f x) d (omega (arith, length-map items f)) ∙ ap g (part-at f (f x) items i x h is)
-
--- a slot with a node is no hole
-some-same : {X : Type 0} (x y : X) → Some x ≡ Some y → x ≡ y
-some-same x y e = grind arith
-
-pub live-of : (x : KeptNode) (o : OpenNode ℕ) → opened_by x ≡ Some o → (is_hole_kind x.kind ≡ false) × (open_of x.opened ≡ o)
-live-of x o e =
-    let live = is-held x (some≢none o (opened_by x) e) in
-    (live, some-same (open_of x.opened) o (sym (held x live) ∙ e))
 
 -- a slot with no name is a hole
 hole-of : (z : Option (OpenNode ℕ)) → open_name z ≡ 0 → z ≡ None
@@ -80,12 +71,3 @@ module _ {X Y : Type 0} (f : X → Y) (items : List X) (i j : ℕ) (a b d : X) (
 
   pub two-upper : f b ≡ f (get_or items j d) → map f (set (set items i a) j b) ≡ set (map f items) i (f a)
   two-upper g = map-set_same f (set items i a) j b d (g ∙ sym unmoved) ∙ map-set f items i a
-
-  pub two-exchanged : (c : Y) → j < length items → f a ≡ f (get_or items j d) → f b ≡ f (get_or items i d)
-      → map f (set (set items i a) j b) ≡ exchanged i j c (map f items)
-  two-exchanged c within e g =
-      map-set f (set items i a) j b ∙ ap (λ l. set l j (f b)) (map-set f items i a)
-      ∙ (λ r. set (set (map f items) i ((e ∙ at j within) r)) j ((g ∙ at i (omega arith)) r))
-    where
-      at : (n : ℕ) → n < length items → f (get_or items n d) ≡ get_or (map f items) n c
-      at n h = sym (get_or-map f items n d) ∙ get_or_default (map f items) n (f d) c (omega (arith, length-map items f))

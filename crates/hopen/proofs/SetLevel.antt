@@ -1,5 +1,5 @@
 -- The level of the nearest node of a set, by the node that is kept.
-use Rattle.hopen.proofs.Names.{◌≡◌, ℕ, zero, suc, ◌-◌, ◌<◌, ◌≤◌, ◌⊎◌, Bool, true, false, cond, List, Option, Some, None, length, map, reverse, take, get_or, inl, inr, refl, sym, ◌∙◌, ap, arith, cases_Bool, cases_lt, eqb-true, get_or-map, get_or_default, get_or_past, length-map, reverse-map, take-map, take_all, last_up, last_place, up-within, up-found, up-least, up-past, LevelsStand, slot_nodes, open_node, opened_by, slots_of, holds_one, is_in, nearest_in, nearest_up, same_node_of, KeptNode, LastLevels, NameSet, OpenNode}
+use Rattle.hopen.proofs.Names.{nat_tests, common_steps, ◌≡◌, ℕ, zero, suc, ◌-◌, ◌<◌, ◌≤◌, ◌⊎◌, true, false, cond, List, Option, Some, None, length, map, reverse, take, get_or, inl, inr, refl, sym, ◌∙◌, ap, arith, cases_Bool, cases_lt, eqb-true, get_or-map, get_or_default, get_or_past, length-map, reverse-map, take-map, take_all, last_up, last_place, up-within, up-found, up-least, up-past, LevelsStand, slot_nodes, open_node, opened_by, slots_of, holds_one, is_in, nearest_in, nearest_up, same_node_of, KeptNode, LastLevels, NameSet, OpenNode}
 use Rattle.std.proofs.Math.ListN.{get_or-map as map-at}
 use Rattle.hopen.proofs.IndexSteps.{last_up-is}
 use Rattle.hopen.proofs.Linked.{eqb-same, kept-member, numbered, place-map}
@@ -9,11 +9,7 @@ abbrev member : NameSet → Option (OpenNode ℕ) → ℕ
 member set z = cond (holds_one (is_in set) z) 1 0
 
 member-sought : (set : NameSet) (z : Option (OpenNode ℕ)) → numbered 0 (member set z) ≡ holds_one (is_in set) z
-member-sought set z = go (holds_one (is_in set) z)
-  where
-    go : (v : Bool) → numbered 0 (cond v 1 0) ≡ v
-    go true = refl
-    go false = refl
+member-sought set z = grind (arith, common_steps, nat_tests, numbered)
 
 nearest-cond : (set : NameSet) (z : Option (OpenNode ℕ)) (above : ℕ) → nearest_in set z above ≡ cond (holds_one (is_in set) z) (open_node z) above
 nearest-cond set None above = refl
@@ -37,20 +33,10 @@ module _ (set : NameSet) (ys : List (Option (OpenNode ℕ))) where
 
   nearest-is : (n : ℕ) → nearest_up set ys n ≡ node-of (place n)
   nearest-is zero = refl
-  nearest-is (suc n) =
-      nearest-cond set (get_or ys n None) (nearest_up set ys n) ∙ go (holds_one (is_in set) (get_or ys n None)) (nearest-is n)
-      ∙ ap (λ v. node-of (cond v (suc n) (place n))) (sym (sought-at n))
-    where
-      go : (v : Bool) → nearest_up set ys n ≡ node-of (place n)
-          → cond v (open_node (get_or ys n None)) (nearest_up set ys n) ≡ node-of (cond v (suc n) (place n))
-      go true e = refl
-      go false e = e
+  nearest-is (suc n) = grind (arith, common_steps, nat_tests, nearest-cond, sought-at, nearest-is n)
 
   place-slots : (n : ℕ) → n ≤ length ys → place n ≡ last_place (holds_one (is_in set)) (reverse (take n ys))
-  place-slots n h =
-      last_up-is (numbered 0) (map (member set) ys) n (omega (arith, length-map ys (member set)))
-      ∙ ap (last_place (numbered 0)) (ap reverse (take-map (member set) n ys) ∙ reverse-map (member set) (take n ys))
-      ∙ place-map (member set) (numbered 0) (reverse (take n ys)) ∙ (λ i. last_place (λ z. member-sought set z i) (reverse (take n ys)))
+  place-slots n h = grind (arith, common_steps, nat_tests, last_up-is, length-map, member-sought, numbered, place-map, reverse-map, take-map)
 
 module _ (last : LastLevels) (items : List KeptNode) (s : LevelsStand last items) (set : NameSet) (n : ℕ)
     (kept : n ≡ nearest_up set (map opened_by items) (length items)) where
@@ -78,25 +64,12 @@ module _ (last : LastLevels) (items : List KeptNode) (s : LevelsStand last items
 
   -- none is open where none is kept
   pub none-open : n ≡ 0 → 0 ≡ last_place (holds_one (is_in set)) (slots_of items)
-  none-open e = none ∙ whole
-    where
-      none : 0 ≡ p
-      none = elim (cases_lt 0 p) as (λ _. 0 ≡ p) [
-        | inl less ↦ absurd (omega (
-          arith,
-          node-at less,
-          open-some set (get_or ys (p - 1) None) (sym (sought-at set ys (p - 1)) ∙ up-found (numbered 0) (map (member set) ys) (length items) less),
-        ))
-        | inr past ↦ omega arith
-      ]
+  none-open e = grind (arith, common_steps, nat_tests, cases_lt, node-at, numbered, open-some, sought-at, up-found, whole)
 
   module _ (some : 0 < n) where
     -- it is the node of the nearest slot of the set
     found : 0 < p
-    found = elim (cases_lt 0 p) [
-      | inl less ↦ less
-      | inr past ↦ absurd (omega (arith, kept ∙ nearest-is set ys (length items) ∙ ap (node-of set ys) (let none : p ≡ 0 = omega arith in none)))
-    ]
+    found = grind (arith, common_steps, nat_tests, cases_lt, nearest-is)
 
     place-within : p ≤ length items
     place-within = up-within (numbered 0) (map (member set) ys) (length items)

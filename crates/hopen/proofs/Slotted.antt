@@ -1,5 +1,5 @@
 -- The items of a list and their numbers, where the last ones leave, and where one becomes a hole.
-use Rattle.hopen.proofs.Names.{get_or-set_same, refl, length-map, ◌≡◌, ◌≢◌, ℕ, zero, suc, ◌+◌, ◌-◌, ◌<◌, ◌≤◌, true, false, List, [], ◌∷◌, ◌++◌, length, take, set, get_or, min, subst, sym, ◌∙◌, ap, arith, All, length-append, map-append, take-map, map-set, length-set, length-take-le, get_or-set_other, All-append, All-take, All-set, entry_hash, none, EntryOf, IsStored, is_gone, item_of, AreSlotsListed, by_hash, by_name, by_node, number_by, numbers_by, unless_hole, Stored, Slots, max, is_some, get_or-take}
+use Rattle.hopen.proofs.Names.{nat_tests, common_steps, get_or-set_same, refl, length-map, ◌≡◌, ◌≢◌, ℕ, zero, suc, ◌+◌, ◌-◌, ◌<◌, ◌≤◌, true, false, List, [], ◌∷◌, ◌++◌, length, take, set, get_or, min, subst, sym, ◌∙◌, ap, arith, All, length-append, map-append, take-map, map-set, length-set, length-take-le, get_or-set_other, All-take, All-set, entry_hash, none, EntryOf, IsStored, is_gone, item_of, AreSlotsListed, by_hash, by_name, by_node, number_by, numbers_by, unless_hole, Stored, Slots, max, is_some, get_or-take}
 use Rattle.hopen.specs.declared.entry.Slot.TheVariants as stored
 
 -- there is a number for each item
@@ -69,14 +69,4 @@ module _ (old new : Slots) (listed : AreSlotsListed old) where
       let numbers = λ (of : EntryOf ℕ → ℕ). sym (map-append (λ i. number_by of (item_of i)) xs (item ∷ [])) ∙ ap (numbers_by of) (sym items) in
       let one : All IsStored (item ∷ []) = λ k d low. let first : 0 ≡ k = omega arith in subst (λ j. IsStored (get_or (item ∷ []) j d)) first is in
       let size : length new.items.items ≡ suc (length xs) = ap length items ∙ length-append xs (item ∷ []) ∙ (omega arith) in
-      record {
-        names = names ∙ ap (λ ns. ns ++ number_by by_name (item_of item) ∷ []) listed.names ∙ numbers by_name;
-        hashes = λ some. let there = ap is_some (sym keys) ∙ some in
-            hashes there ∙ ap (λ ns. ns ++ number_by (by_hash old.keys) (item_of item) ∷ []) (listed.hashes there) ∙ numbers (by_hash old.keys)
-            ∙ ap (λ k. numbers_by (by_hash k) new.items.items) (sym keys);
-        nodes = nodes ∙ ap (λ ns. ns ++ number_by by_node (item_of item) ∷ []) listed.nodes ∙ numbers by_node;
-        stored = subst (All IsStored) (sym items) (All-append IsStored xs (item ∷ []) listed.stored one);
-        within = omega (arith, solid, size, listed.within);
-        solid = λ i from to x. ap (λ ys. is_gone (get_or ys i x)) items ∙ gone-put xs item x i (λ low. listed.solid i (omega (arith, solid)) low x) there
-            (omega (arith, size));
-      }
+      grind (arith, common_steps, nat_tests, gone-put, length-append, map-append)

@@ -1,5 +1,5 @@
 -- Members of a list that change places, leave or give way, and the levels that are kept of them.
-use Rattle.hopen.proofs.Names.{ne_eqb, ◌≡◌, ◌≢◌, ℕ, zero, suc, ◌-◌, ◌<◌, ◌≤◌, eqb, Bool, true, false, cond, ◌&&◌, List, length, map, get_or, set, ◌⊎◌, inl, inr, refl, sym, ◌∙◌, ap, subst, arith, cases_Bool, cases_eq, cases_lt, eqb-true, eqb-false, eqb-zero-suc, get_or-set_same, get_or-set_other, get_or_past, length-set, map-set, set-get_or, set-set, last_up, last_same, up-sought, up-other, up-within, up-found, up-least, up-past, up-alike, IsHeldLevel, IsLinked, AreHoles, exchanged, level_exchanged, nat_tests}
+use Rattle.hopen.proofs.Names.{common_steps, ne_eqb, ◌≡◌, ◌≢◌, ℕ, zero, suc, ◌-◌, ◌<◌, ◌≤◌, eqb, Bool, true, false, cond, ◌&&◌, List, length, map, get_or, set, ◌⊎◌, inl, inr, refl, sym, ◌∙◌, ap, subst, arith, cases_Bool, cases_eq, cases_lt, eqb-true, eqb-false, eqb-zero-suc, get_or-set_same, get_or-set_other, get_or_past, length-set, map-set, set-get_or, set-set, last_up, last_same, up-sought, up-other, up-within, up-found, up-least, up-past, up-alike, IsHeldLevel, IsLinked, AreHoles, exchanged, level_exchanged, nat_tests}
 use Rattle.std.proofs.Math.ListN.{get_or-map}
 use Rattle.hopen.proofs.Linked.{either, eqb-same, get-set, numbered, same-from, same-hole, same-member, kept-hole, kept-member}
 
@@ -174,11 +174,7 @@ module _ (t ns bs : List ℕ) (l : IsLinked t ns bs) (i : ℕ) where
     walk-start h =
         let up = l.says a in
         let least = past-own (length ns) i h member in
-        record {
-          below = omega arith;
-          most = omega (arith, up-within (numbered a) ns (length ns));
-          number = ap (λ p. get_or ns (p - 1) 0) up ∙ eqb-true _ _ (up-found (numbered a) ns (length ns) (omega arith)) ∙ sym member;
-        }
+        grind (arith, common_steps, nat_tests, eqb-true, numbered, past-own, up-found, up-within)
 
     -- so its number is in the table
     pub walk-in : i < length ns → a < length t
@@ -191,14 +187,7 @@ module _ (t ns bs : List ℕ) (l : IsLinked t ns bs) (i : ℕ) where
         let most = w.most in
         let up = kept-member t ns bs l (p - 1) (omega arith) a (w.number ∙ member) in
         let least = past-own (p - 1) i (omega arith) member in
-        let within = up-within (numbered a) ns (p - 1) in (
-          record {
-            below = omega arith;
-            most = omega arith;
-            number = ap (λ q. get_or ns (q - 1) 0) up ∙ eqb-true _ _ (up-found (numbered a) ns (p - 1) (omega arith)) ∙ sym member;
-          },
-          omega arith,
-        )
+        grind (arith, common_steps, nat_tests, eqb-true, kept-member, numbered, past-own, up-found, up-within)
 
 -- two members that have holes alone between them, and are not of one number, change places
 module _ (t ns bs : List ℕ) (l : IsLinked t ns bs) (i j a b : ℕ) (less : i < j) (within : j < length ns)
@@ -283,14 +272,7 @@ module _ (t ns bs : List ℕ) (l : IsLinked t ns bs) (i a next : ℕ) (within : 
 
   -- where a number is last past the hole
   left-past : (k n : ℕ) → i < n → level_left i (get_or bs i 0) (last_up (numbered k) ns n) ≡ last_up (numbered k) left n
-  left-past k n h = go (cases_eq (last_up (numbered k) ns n) (suc i)) ∙ sym (up-left (numbered k) (eqb-zero-suc k) i ns within n h)
-    where
-      p : ℕ
-      p = last_up (numbered k) ns n
-
-      go : (p ≡ suc i) ⊎ (p ≢ suc i) → level_left i (get_or bs i 0) p ≡ level_left i (last_up (numbered k) ns i) p
-      go (inl e) = ap (λ b. level_left i b p) (kept-member t ns bs l i within k (up-at k ns n i e))
-      go (inr ne) = left-other i (get_or bs i 0) p ne ∙ sym (left-other i (last_up (numbered k) ns i) p ne)
+  left-past k n h = grind (arith, common_steps, nat_tests, cases_eq, eqb-zero-suc, kept-member, left-other, numbered, up-at, up-left)
 
   rest-left : (m : ℕ) → m < length ns → m ≢ i → get_or cs m 0 ≡ last_same left m
   rest-left m h ne = same-from left m (get_or cs m 0)
@@ -338,10 +320,7 @@ module _ (t ns bs : List ℕ) (l : IsLinked t ns bs) (i new : ℕ) (within : i <
   elsewhere m ne = get_or-set_other ns i m (suc new) 0 ne
 
   not-new : (m : ℕ) → m < length ns → numbered new (get_or ns m 0) ≡ false
-  not-new m h = elim (cases_Bool (numbered new (get_or ns m 0))) [
-    | inl e ↦ absurd (omega (arith, l.says new, up-least (numbered new) ns (length ns) m h e))
-    | inr e ↦ e
-  ]
+  not-new m h = grind (arith, common_steps, nat_tests, cases_Bool, numbered, up-least)
 
   still-not : (m : ℕ) → m < length ns → m ≢ i → numbered new (get_or filled m 0) ≡ false
   still-not m h ne = ap (numbered new) (elsewhere m ne) ∙ not-new m h
@@ -417,10 +396,7 @@ module _ (t ns bs : List ℕ) (l : IsLinked t ns bs) (long : length bs ≡ lengt
   held-lower = held-none t ns bs l j b second long lower
 
   table-alone : (k : ℕ) → get_or table k 0 ≡ level_exchanged i j (get_or t k 0)
-  table-alone k =
-      get-set (set t a (suc j)) b (suc i) k (omega (arith, length-set t a (suc j), walk-in t ns bs l j b second within))
-      ∙ ap (cond (eqb k b) (suc i)) (get-set t a (suc j) k (walk-in t ns bs l i a first (omega arith)))
-      ∙ moved-table t bs i j a b 0 0 (suc i) (suc j) less refl refl held-upper held-lower k
+  table-alone k = grind (arith, common_steps, nat_tests, get-set, held-lower, held-upper, length-set, moved-table, walk-in)
 
   list-alone : (m : ℕ) → get_or bs m 0 ≡ level_exchanged i j (get_or bs m 0)
   list-alone m =

@@ -1,5 +1,5 @@
 -- The holes of a vector: one at the end goes, and how many there are.
-use Rattle.hopen.proofs.Names.{◌≡◌, ◌≢◌, ℕ, suc, ◌+◌, ◌-◌, ◌<◌, List, [], ◌∷◌, ◌++◌, Option, Some, None, false, add-one, refl, length, map, reverse, take, get_or, set, sym, ◌∙◌, ap, subst, arith, length-append, length-map, length-set, length-reverse, length-take-le, reverse-append, take_all, take_more, take-map, take-take, get_or_push, sum_by, sum_by-cons, sum_by-set, sum_by_push, get_or-le-sum_by, gap, is_hole_kind, opened_by, stack_of, somes, EndsOpen, LevelsStand, LevelsTo, KeptNode, LastLevels}
+use Rattle.hopen.proofs.Names.{nat_tests, common_steps, ◌≡◌, ◌≢◌, ℕ, suc, ◌+◌, ◌-◌, ◌<◌, List, [], ◌∷◌, ◌++◌, Option, Some, None, false, add-one, refl, length, map, reverse, take, get_or, set, sym, ◌∙◌, ap, arith, length-append, length-map, length-set, length-reverse, length-take-le, reverse-append, take_all, take_more, take-map, take-take, get_or_push, sum_by, sum_by-cons, sum_by-set, sum_by_push, get_or-le-sum_by, gap, is_hole_kind, opened_by, stack_of, somes, EndsOpen, LevelsStand, KeptNode, LastLevels}
 use Rattle.hopen.proofs.Held.{is-held, opened-at}
 use Rattle.hopen.proofs.Somes.{reverse-somes}
 use Rattle.hopen.proofs.Standing.{levels-front, levels-hole, stands-to, to-stands}
@@ -49,9 +49,7 @@ module _ (items : List KeptNode) (some : 0 < length items) (gone : get_or (map o
   pub stands-trimmed : (last : LastLevels) → LevelsStand last items → LevelsStand last left
   stands-trimmed last s =
       let next : length items ≡ suc many = omega arith in
-      to-stands last left many (sym (length-take-le many items (omega arith)))
-      (levels-front many last left items (take-take many many items (omega arith))
-      (levels-hole items many (omega arith) last (subst (λ n. LevelsTo n last items) next (stands-to last items s)) gone))
+      grind (arith, common_steps, nat_tests, length-take-le, levels-front, levels-hole, stands-to, take-take, to-stands)
 
 -- the last slot of a vector that ends with no hole
 pub ends-live : (items : List KeptNode) (x : KeptNode) → EndsOpen (map opened_by (items ++ x ∷ [])) → is_hole_kind x.kind ≡ false
