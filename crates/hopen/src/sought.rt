@@ -112,20 +112,7 @@ pub(crate) fn level_of(last: &LastLevels, items: &[KeptNode], sought: Sought) ->
     }
 }
 
-/// The nearest node that is sought.
-pub(crate) fn nearest(last: &LastLevels, items: &[KeptNode], sought: Sought) -> Option<Open>
-    requires stands { LevelsStand last.now items.now }
-    requires ends { EndsOpen (map opened_by items.now) }
-    ensures { option_map open_of result ≡ find (is_sought sought) (stack_of items.now) }
-{
-    let level = level_of(last, items, sought) as usize;
-    if level == 0 {
-        return None;
-    }
-    Some(items[level - 1].opened)
-}
-
-/// The same, unless it is the topmost node.
+/// The nearest node that is sought, unless it is the topmost node.
 pub(crate) fn nearest_below_first(
     last: &LastLevels,
     items: &[KeptNode],

@@ -14,9 +14,7 @@ use crate::kept::{KeptNode, LastLevels, append, replace};
 use crate::leaving::{pop, remove};
 use crate::name_sets::NameSet;
 use crate::scope::{Group, Scope};
-use crate::sought::{
-    Sought, first_special, last_open, level_of, nearest, nearest_below_first, set_level,
-};
+use crate::sought::{Sought, first_special, last_open, level_of, nearest_below_first, set_level};
 use hnodes::NodeId;
 use names::{NameId, Refusal};
 use std::alloc::{AllocError, Global};
@@ -240,7 +238,11 @@ impl OpenStack {
     pub fn nearest(&self, name: NameId) -> Option<Open>
         ensures { option_map open_of result ≡ find (is_named nat_eq name) self.now.stack }
     {
-        nearest(&self.last, &self.items, Sought::Name(name))
+        let level = level_of(&self.last, &self.items, Sought::Name(name)) as usize;
+        if level == 0 {
+            return None;
+        }
+        Some(self.items[level - 1].opened)
     }
 
     /// The nearest open node of a group below the topmost node.

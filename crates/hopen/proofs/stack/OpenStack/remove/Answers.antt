@@ -1,4 +1,4 @@
-use Rattle.hopen.proofs.Names.{common_steps, ◌-◌, length, ap, ◌∙◌, arith, is_node, stack_of}
+use Rattle.hopen.proofs.Names.{common_steps, ◌-◌, ◌∙◌, arith, is_node}
 use Rattle.hopen.proofs.NodeLevels.{node-placed}
 use Rattle.hopen.proofs.OpenLevels.{node-level, placed}
 use Rattle.hopen.proofs.Opened.{kept, length-without-le, none-left, seen, stack-left}
@@ -17,10 +17,7 @@ invariant_of-self c =
     let s = is_node c.args.node in
     let left = c.remove.ensures.items ∙ stack-left s items (c.of_node-level.result - 1)
     (node-placed _ _ c.self.invariant.rests.stands c.args.node c.of_node-level.result c.of_node-level.ensures (omega arith)) in
-    record {
-      within = omega (arith, c.self.invariant.within, ap length left, length-without-le s (stack_of items));
-      rests = c.remove.ensures.rests;
-    }
+    grind (arith, common_steps, node-placed, node-level, placed, kept, length-without-le, none-left, seen, stack-left)
 
 pub returns-then-level-gt0 : goal.returns-then-level-gt0
 returns-then-level-gt0 c = grind (arith, common_steps, node-level, placed, seen, stack-left)
