@@ -1,16 +1,15 @@
 //! The list of active formatting elements (HTML Standard, `#the-list-of-active-formatting-elements`).
 
-ghost use Rattle.std.specs.Prelude.{◌≡◌, ℕ, List, ◌-◌, ◌<◌, ◌≤◌, ◌∷◌, [], IsTrue, OnOk, OnErr, length, nat_eq, slice_index_or, true};
+ghost use Rattle.std.specs.Prelude.{◌≡◌, ℕ, List, ◌-◌, ◌<◌, ◌≤◌, ◌∷◌, [], IsTrue, OnOk, OnErr, length, nat_eq};
 ghost use Rattle.std.specs.List.{list_any};
 ghost use Rattle.std.specs.Option.{is_some, option_map};
 ghost use Rattle.hnodes.specs.Nearest.{changed_at, without};
-ghost use Rattle.hopen.specs.Vocabulary.{booked, cleared, entry_at, entry_is, entry_of, find_entry, for_node, has_bookmark, is_entry, is_gone, listed_items, live, marker};
+ghost use Rattle.hopen.specs.Vocabulary.{booked, cleared, entry_at, entry_is, entry_of, find_entry, for_node, has_bookmark, is_entry, listed_items, live, marker};
 ghost use Rattle.hopen.specs.Vocabulary.{coded_items, nth_live, pushed, with_node, without_entry, AreSlotsListed, Listed};
-ghost use Rattle.hopen.specs.declared.entry.Slot.TheVariants as stored;
 
 use crate::bookmark::Bookmark;
 use crate::entry::{Entry, Slot};
-use crate::slots::{FEW, MARKER, Numbers, Slots, node_number};
+use crate::slots::{FEW, MARKER, Slots, node_number};
 use hnodes::{Attributes, NodeId, name_number};
 use names::{Keys, NameId};
 use std::alloc::{AllocError, Global};
@@ -62,22 +61,13 @@ fn slot(slots: &Slots, back: usize) -> Option<usize>
     None
 }
 
-/// Whether the last item is a hole.
-fn ends_in_hole(slots: &Slots) -> bool
-    ensures { (result ≡ true) → (0 < length slots.now.items.items)
-        × (is_gone (slice_index_or slots.now.items.items (length slots.now.items.items - 1) stored.Hole) ≡ true) }
-{
-    let len = slots.items.len();
-    len > 0 && slots.items[len - 1].is_hole()
-}
-
 /// Removes the holes at the end.
 fn trim(slots: &mut Slots)
     requires { AreSlotsListed slots.old }
     ensures listed { AreSlotsListed slots.new }
     ensures same { live (listed_items slots.new.items.items) ≡ live (listed_items slots.old.items.items) }
 {
-    while ends_in_hole(slots) {
+    while matches!(slots.items.last(), Some(Slot::Hole)) {
         let len = slots.items.len();
         slots.truncate(len - 1);
     }
@@ -120,13 +110,9 @@ impl Formatting {
         let (hash, earliest) = self
             .slots
             .prepare(self.alloc, &self.keys, name, attrs.as_slice())?;
-        let numbers = Numbers {
-            name: name_number(name),
-            hash,
-            node: node_number(node),
-        };
+        let entry = Slot::Entry(Entry { node, name, attrs });
         self.slots
-            .put(Slot::Entry(Entry { node, name, attrs }), numbers)?;
+            .put(entry, name_number(name), hash, node_number(node))?;
         if let Some(back) = earliest {
             let index = self.slots.items.len() - 2 - back;
             self.slots.hide(index);
@@ -140,13 +126,7 @@ impl Formatting {
         ensures err { OnErr result (self.new ≡ self.old) }
     {
         make_room(&mut self.slots)?;
-        let numbers = Numbers {
-            name: MARKER,
-            hash: MARKER,
-            node: MARKER,
-        };
-        self.slots.put(Slot::Marker, numbers)?;
-        Ok(())
+        self.slots.put(Slot::Marker, MARKER, MARKER, MARKER)
     }
 
     /// Removes the last marker and everything after it, or everything if there is no marker
@@ -260,18 +240,11 @@ impl Formatting {
     {
         match bookmark {
             Bookmark::InPlace => self.replace(from, to),
-            Bookmark::After(mark) => self.move_after(from, to, mark),
+            Bookmark::After(mark) => {
+                let index = self.slots.nodes.last(node_number(from)) - 1;
+                self.slots.move_after(index, to, mark);
+            }
         }
-    }
-
-    /// Sets the node of a node's entry, and moves the entry right after that of another node.
-    fn move_after(&mut self, from: NodeId, to: NodeId, mark: NodeId)
-        requires entry { IsTrue (list_any (is_entry from) self.old) }
-        requires mark { IsTrue (has_bookmark from (Bookmark.After mark) self.old) }
-        ensures { self.new ≡ booked from to (Bookmark.After mark) self.old }
-    {
-        let index = self.slots.nodes.last(node_number(from)) - 1;
-        self.slots.move_after(index, to, mark);
     }
 
     /// Removes the last entry of a node. Returns whether it has another one.

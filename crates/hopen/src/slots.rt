@@ -1,12 +1,12 @@
 //! The items of the list of active formatting elements, with the holes that entries leave: nothing moves where one is removed.
 
 ghost use Rattle.std.specs.Prelude.{◌≡◌, ◌≢◌, suc, ◌+◌, ◌-◌, ◌<◌, ◌≤◌, ◌++◌, ◌∷◌, [], IfOk, IfSome, OnOk, OnErr, IsTrue, is_some, true, false, insert};
-ghost use Rattle.std.specs.Prelude.{◌⊎◌, Some, None, length, map, nat_eq, not, remove, slice_index, slice_index_or, slice_set, filter, take, drop};
+ghost use Rattle.std.specs.Prelude.{Some, None, length, map, nat_eq, not, remove, slice_index, slice_index_or, slice_set, filter, take, drop};
 ghost use Rattle.std.specs.List.{All, list_any};
 ghost use Rattle.std.specs.Option.{option_map_or};
 ghost use Rattle.hnodes.specs.IndexedList.{none};
 ghost use Rattle.hnodes.specs.Nearest.{changed_at, item_put_before};
-ghost use Rattle.hopen.specs.Vocabulary.{attribute_of, by_hash, by_name, by_node, entry_hash, find_entry, for_node, is_entry, is_gone, item_of, listed_items, live, number_by, numbers_by};
+ghost use Rattle.hopen.specs.Vocabulary.{attribute_of, by_hash, by_name, by_node, entry_hash, for_node, is_entry, is_gone, item_of, listed_items, live, number_by, numbers_by};
 ghost use Rattle.hopen.specs.Vocabulary.{stored_entry, with_room, AreSlotsListed, IsStored};
 ghost use Rattle.hopen.specs.declared.entry.Slot.TheVariants as stored;
 
@@ -32,14 +32,6 @@ pub(crate) fn node_number(node: NodeId) -> usize
     node.index() + 2
 }
 
-/// The numbers of an item: those of its name, its hash and its node.
-#[derive(Clone, Copy)]
-pub(crate) struct Numbers {
-    pub(crate) name: usize,
-    pub(crate) hash: usize,
-    pub(crate) node: usize,
-}
-
 /// Items, and where each of their numbers is last.
 #[derive(Drop)]
 pub(crate) struct Slots {
@@ -61,22 +53,23 @@ fn push_numbers(
     hashes: &mut IndexedList,
     nodes: &mut IndexedList,
     hashed: bool,
-    numbers: Numbers,
+    hash: usize,
+    node: usize,
     len: usize,
 ) -> Result<(), AllocError>
-    requires hash { numbers.hash ≢ none }
-    requires node { numbers.node ≢ none }
+    requires hash { hash ≢ none }
+    requires node { node ≢ none }
     requires len { length nodes.old ≡ len }
-    ensures hashes { OnOk result (hashed ≡ true → hashes.new ≡ hashes.old ++ numbers.hash ∷ []) }
-    ensures nodes { OnOk result (nodes.new ≡ nodes.old ++ numbers.node ∷ []) }
+    ensures hashes { OnOk result (hashed ≡ true → hashes.new ≡ hashes.old ++ hash ∷ []) }
+    ensures nodes { OnOk result (nodes.new ≡ nodes.old ++ node ∷ []) }
     ensures same_hashes { OnErr result (hashes.new ≡ hashes.old) }
     ensures same_nodes { OnErr result (nodes.new ≡ nodes.old) }
 {
-    nodes.push(numbers.node)?;
+    nodes.push(node)?;
     if !hashed {
         return Ok(());
     }
-    if let Err(error) = hashes.push(numbers.hash) {
+    if let Err(error) = hashes.push(hash) {
         nodes.truncate(len);
         return Err(error);
     }
@@ -148,25 +141,6 @@ impl Slots {
         place > marker
     }
 
-    /// Before an entry of a name comes: if that name has many, hashes the entries from now on. On an error nothing changes.
-    fn hash_if_crowded(
-        &mut self,
-        alloc: Global,
-        keys: &Keys,
-        name: NameId,
-    ) -> Result<(), AllocError>
-        requires listed { AreSlotsListed self.old }
-        ensures listed { AreSlotsListed self.new }
-        ensures items { self.new.items.items ≡ self.old.items.items }
-        ensures keys { (self.new.keys ≡ self.old.keys) ⊎ (self.new.keys ≡ Some keys.now) }
-    {
-        if self.keys.is_none() && self.is_crowded(name) {
-            self.hashes = hash_items(alloc, Some(*keys), &self.items)?;
-            self.keys = Some(*keys);
-        }
-        Ok(())
-    }
-
     /// Where the hash of each item is.
     fn by_hash(&self) -> &IndexedList
         requires { AreSlotsListed self.now }
@@ -208,15 +182,6 @@ impl Slots {
         Ok(if equal < MOST_EQUAL { None } else { earliest })
     }
 
-    /// Whether an entry of a name comes after the last marker.
-    fn has(&self, name: NameId) -> bool
-        requires { AreSlotsListed self.now }
-        ensures { (result ≡ false) → find_entry nat_eq name (listed_items self.now.items.items) ≡ None }
-    {
-        let place = self.names.last(name_number(name));
-        place > self.names.last(MARKER)
-    }
-
     /// Before an entry comes: the number of its hash, and how many items come after the entry that gives way to it. If its name has many
     /// entries, the entries are hashed from now on. On an error nothing changes.
     #[inline(always)]
@@ -235,23 +200,33 @@ impl Slots {
         ensures room { IfOk result (λ p. option_map_or (remove (listed_items self.new.items.items)) p.1 (listed_items self.new.items.items)
             ≡ with_room nat_eq (record { node = 0; name = name; attrs = map attribute_of attrs.now }) (listed_items self.new.items.items)) }
     {
-        if !self.has(name) {
+        let place = self.names.last(name_number(name));
+        if place <= self.names.last(MARKER) {
             return Ok((find_hash(alloc, self.keys, name, attrs)?, None));
         }
-        self.hash_if_crowded(alloc, keys, name)?;
+        if self.keys.is_none() && self.is_crowded(name) {
+            self.hashes = hash_items(alloc, Some(*keys), &self.items)?;
+            self.keys = Some(*keys);
+        }
         let hash = find_hash(alloc, self.keys, name, attrs)?;
         Ok((hash, self.giving_way(alloc, hash, name, attrs)?))
     }
 
-    /// Adds an item at the end. On an error no item changes.
+    /// Adds an item at the end, with the numbers of its name, its hash and its node. On an error no item changes.
     #[inline(always)]
-    pub(crate) fn put(&mut self, item: Slot, numbers: Numbers) -> Result<(), AllocError>
+    pub(crate) fn put(
+        &mut self,
+        item: Slot,
+        name: usize,
+        hash: usize,
+        node: usize,
+    ) -> Result<(), AllocError>
         requires listed { AreSlotsListed self.old }
         requires stored { IsStored item }
         requires there { is_gone item ≡ false }
-        requires name { numbers.name ≡ number_by by_name (item_of item) }
-        requires hash { numbers.hash ≡ number_by (by_hash self.old.keys) (item_of item) }
-        requires node { numbers.node ≡ number_by by_node (item_of item) }
+        requires name { name ≡ number_by by_name (item_of item) }
+        requires hash { hash ≡ number_by (by_hash self.old.keys) (item_of item) }
+        requires node { node ≡ number_by by_node (item_of item) }
         ensures listed { AreSlotsListed self.new }
         ensures ok { OnOk result (self.new.items.items ≡ self.old.items.items ++ item ∷ []) }
         ensures err { OnErr result (self.new.items.items ≡ self.old.items.items) }
@@ -259,11 +234,12 @@ impl Slots {
         let len = self.items.len();
         let hashed = self.keys.is_some();
         self.items.push(item)?;
-        if let Err(error) = self.names.push(numbers.name) {
+        if let Err(error) = self.names.push(name) {
             self.items.truncate(len);
             return Err(error);
         }
-        if let Err(error) = push_numbers(&mut self.hashes, &mut self.nodes, hashed, numbers, len) {
+        let (hashes, nodes) = (&mut self.hashes, &mut self.nodes);
+        if let Err(error) = push_numbers(hashes, nodes, hashed, hash, node, len) {
             self.names.truncate(len);
             self.items.truncate(len);
             return Err(error);
@@ -357,25 +333,6 @@ impl Slots {
         }
     }
 
-    /// Sets the node of the entry at an index, and moves it right after the entry of another node, past one item at a time.
-    fn step_after(&mut self, index: usize, node: NodeId, mark: NodeId)
-        requires listed { AreSlotsListed self.old }
-        requires within { index < length self.old.items.items }
-        requires entry { is_some (stored_entry (slice_index_or self.old.items.items index stored.Hole)) ≡ true }
-        requires mark { IsTrue (list_any (is_entry mark) (listed_items (remove self.old.items.items index))) }
-        ensures listed { AreSlotsListed self.new }
-        ensures items { listed_items self.new.items.items
-            ≡ item_put_before (is_entry mark) (for_node node (item_of (slice_index_or self.old.items.items index stored.Hole)))
-            (listed_items (remove self.old.items.items index)) }
-    {
-        self.nodes.clear(index);
-        let place = self.nodes.last(node_number(mark));
-        let to = if place <= index { place } else { place - 1 };
-        self.nodes.set(index, node_number(node));
-        self.items[index].set_node(node);
-        self.carry(index, to);
-    }
-
     /// Moves the entry at an index to where a hole is, and leaves one.
     fn jump(&mut self, index: usize, hole: usize)
         requires listed { AreSlotsListed self.old }
@@ -430,7 +387,12 @@ impl Slots {
             (listed_items (remove self.old.items.items index))) }
     {
         let near = self.approach(index, mark);
-        self.step_after(near, node, mark);
+        self.nodes.clear(near);
+        let place = self.nodes.last(node_number(mark));
+        let to = if place <= near { place } else { place - 1 };
+        self.nodes.set(near, node_number(node));
+        self.items[near].set_node(node);
+        self.carry(near, to);
     }
 
     /// Takes the holes from an index on out.

@@ -1,4 +1,4 @@
-use Rattle.hopen.proofs.Names.{◌≡◌, ◌-◌, false, Some, length, sym, ◌∙◌, ap, arith, for_node, entry_is, listed_items, live, stored_entry, changed_at, is_some, changed_at_past}
+use Rattle.hopen.proofs.Names.{common_steps, ◌≡◌, ◌-◌, false, Some, length, sym, ◌∙◌, ap, arith, for_node, entry_is, listed_items, live, stored_entry, changed_at, is_some, changed_at_past}
 use Rattle.hopen.proofs.Bookmarks.{is_some-option_map}
 use Rattle.hopen.proofs.Holes.{changed-marker, marker-is, nth-index, nth-item, nth-missing, nth-there}
 use Rattle.hopen.proofs.Live.{is_hole-for_node, nth-changed}
@@ -32,5 +32,4 @@ pub returns-in_default : goal.returns-in_default
 returns-in_default c =
     let items = c.self.inside.slots.items.items in
     let past = nth-missing items c.self.invariant.stored c.args.back (sym c.slot.ensures ∙ c.in_default.is) in
-    sym c.self.view_is ∙ sym (changed_at_past (for_node c.args.node) c.args.back (live (listed_items items)) past)
-    ∙ ap (changed_at c.args.back (for_node c.args.node)) c.self.view_is
+    grind (arith, common_steps, changed_at_past)
