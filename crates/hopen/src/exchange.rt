@@ -4,12 +4,11 @@
 ghost use Rattle.std.specs.Prelude.{◌≡◌, ◌≢◌, ℕ, ◌+◌, ◌<◌, ◌≤◌, ◌^◌, ◌==◌, ◌&&◌, None, false, true, suc, drop, length, map, reverse};
 ghost use Rattle.std.specs.Prelude.{slice_index, slice_index_or, slice_set, vec_capacity, vec_len, if◌then◌else◌};
 ghost use Rattle.hnodes.specs.Nearest.{item_put_before, without};
-ghost use Rattle.hopen.specs.Vocabulary.{exchanged, is_hole, is_node, is_open, is_special, slot_names, open_of, opened_by, same_name_of, same_node_of, sets_at};
-ghost use Rattle.hopen.specs.Vocabulary.{kept_kind_at, somes, stack_of, tag_of, AreAlikeButNames, AreAsLong, AreHoles, CanPass, EndsOpen, HasRoom, IsHeldLevel, IsLinked};
-ghost use Rattle.hopen.specs.Vocabulary.{KeepSets, Rests, LevelsStand};
-ghost use Rattle.hopen.specs.declared.kept.Kind.TheVariants as Kind;
+ghost use Rattle.hopen.specs.Vocabulary.{exchanged, is_hole, is_node, is_open, is_special, slot_names, open_of, opened_by, same_name_of};
+ghost use Rattle.hopen.specs.Vocabulary.{somes, stack_of, AreAlikeButNames, AreAsLong, AreHoles, CanPass, EndsOpen, HasRoom, IsHeldLevel, IsLinked};
+ghost use Rattle.hopen.specs.Vocabulary.{Rests, LevelsStand};
 
-use crate::kept::{KeptNode, LastLevels, hint, insert, replace};
+use crate::kept::{KeptNode, LastLevels, hint, replace, rewind, unwind};
 use crate::leaving::remove;
 use crate::stack::Open;
 use hnodes::NodeId;
@@ -114,39 +113,8 @@ fn swap_names(names: &mut [u32], items: &mut [KeptNode], index: usize, below: us
     hint(items, upper.same_name, lower_level);
 }
 
-/// Exchanges the nodes of an item and the next one below it, and all but what they keep of their names. The upper one is not special, so
-/// the nearest nodes of sets are the same from either on upwards.
-fn swap_items(items: &mut [KeptNode], index: usize, below: usize)
-    requires order { index < below }
-    requires within { below < length items.old }
-    requires sets { KeepSets (map opened_by items.old) (map sets_at items.old) }
-    requires upper { (x : KeptNode) → x ≡ slice_index_or items.old index x → (is_hole x.kind ≡ false) × (is_special (tag_of x.opened.name) ≡ false) }
-    requires lower { (x : KeptNode) → x ≡ slice_index_or items.old below x → is_hole x.kind ≡ false }
-    requires holes { AreHoles index below (slot_names (map opened_by items.old)) }
-    ensures opened { map opened_by items.new ≡ exchanged index below None (map opened_by items.old) }
-    ensures same_names { map same_name_of items.new ≡ map same_name_of items.old }
-    ensures same_nodes { map same_node_of items.new ≡ exchanged index below 0 (map same_node_of items.old) }
-    ensures sets { KeepSets (map opened_by items.new) (map sets_at items.new) }
-    ensures kinds { map kept_kind_at items.new ≡ exchanged index below Kind.Hole (map kept_kind_at items.old) }
-{
-    let upper = items[index];
-    let lower = items[below];
-    items[below] = KeptNode {
-        opened: upper.opened,
-        same_node: upper.same_node,
-        kind: upper.kind,
-        ..lower
-    };
-    items[index] = KeptNode {
-        opened: lower.opened,
-        same_node: lower.same_node,
-        sets: lower.sets,
-        kind: lower.kind,
-        ..upper
-    };
-}
-
-/// Exchanges a node that is not special and the next one below it. Neither is open further below.
+/// Exchanges a node that is not special and the next one below it, neither of which is open further below. So the nearest nodes of sets are
+/// the same from either on upwards.
 fn swap(last: &mut LastLevels, items: &mut [KeptNode], index: usize, below: usize)
     requires stands { LevelsStand last.old items.old }
     requires levels { length items.old < 2 ^ 32 }
@@ -155,29 +123,28 @@ fn swap(last: &mut LastLevels, items: &mut [KeptNode], index: usize, below: usiz
     ensures opened { map opened_by items.new ≡ exchanged index below None (map opened_by items.old) }
     ensures tables { AreAsLong last.new last.old }
 {
+    let upper_node = items[index].opened.node;
+    let lower_node = items[below].opened.node;
+    last.nodes[upper_node.index()] = below as u32 + 1;
+    last.nodes[lower_node.index()] = index as u32 + 1;
     let upper = items[index];
     let lower = items[below];
     swap_names(&mut last.names, items, index, below);
-    last.nodes[upper.opened.node.index()] = below as u32 + 1;
-    last.nodes[lower.opened.node.index()] = index as u32 + 1;
-    swap_items(items, index, below);
-}
-
-/// Whether a node can pass the next one below it.
-fn can_pass(last: &LastLevels, items: &[KeptNode], index: usize, below: usize) -> bool
-    requires order { index < below }
-    requires within { below < length items.now }
-    requires upper { (x : KeptNode) → x ≡ slice_index_or items.now index x → is_hole x.kind ≡ false }
-    requires lower { (x : KeptNode) → x ≡ slice_index_or items.now below x → is_hole x.kind ≡ false }
-    requires holes { AreHoles index below (slot_names (map opened_by items.now)) }
-    ensures { (result ≡ true) → CanPass last.now items.now index below }
-{
-    let upper = items[index].opened;
-    let lower = items[below].opened;
-    if upper.name.tag().is_special() || last.of_node(upper.node) as usize != index + 1 {
-        return false;
-    }
-    last.of_node(lower.node) as usize == below + 1
+    let risen = items[index];
+    let sunk = items[below];
+    items[index] = KeptNode {
+        opened: lower.opened,
+        same_node: lower.same_node,
+        sets: lower.sets,
+        kind: lower.kind,
+        ..risen
+    };
+    items[below] = KeptNode {
+        opened: upper.opened,
+        same_node: upper.same_node,
+        kind: upper.kind,
+        ..sunk
+    };
 }
 
 /// The index of the next open node below one.
@@ -212,7 +179,12 @@ fn sink(last: &mut LastLevels, items: &mut [KeptNode], from: usize, to: usize) -
     let mut index = from;
     while index < to {
         let below = next_open(items, index);
-        if !can_pass(last, items, index, below) {
+        let upper = items[index].opened;
+        let lower = items[below].opened;
+        if upper.name.tag().is_special()
+            || last.of_node(upper.node) as usize != index + 1
+            || last.of_node(lower.node) as usize != below + 1
+        {
             break;
         }
         swap(last, items, index, below);
@@ -221,7 +193,7 @@ fn sink(last: &mut LastLevels, items: &mut [KeptNode], from: usize, to: usize) -
     index
 }
 
-/// Takes the node of a slot out and puts a new one right below another, if that is open.
+/// Takes the node of a slot out and puts a new one right below another, if that is open: what is kept below it is made anew.
 #[inline(never)]
 fn move_below(
     last: &mut LastLevels,
@@ -242,9 +214,14 @@ fn move_below(
 {
     remove(last, items, index);
     let level = last.of_node(above) as usize;
-    if level > 0 {
-        insert(last, items, level, new);
+    if level == 0 {
+        return;
     }
+    unwind(last, items, level);
+    if items.insert(level, KeptNode::new(new)).is_err() {
+        unreachable!()
+    }
+    rewind(last, items, level);
 }
 
 /// Takes a node out and puts a new one right below another, by a pass over those from the one down to the other, where the one can

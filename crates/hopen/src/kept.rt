@@ -1,6 +1,6 @@
 //! The levels that open nodes keep, so that no question has to search the stack.
 
-ghost use Rattle.std.specs.Prelude.{◌≡◌, ◌≢◌, List, true, false, ℕ, ◌+◌, ◌-◌, ◌<◌, ◌≤◌, ◌^◌, OnOk, OnErr, ◌∷◌, Some, None, insert, length, map};
+ghost use Rattle.std.specs.Prelude.{◌≡◌, ◌≢◌, List, true, false, ℕ, ◌+◌, ◌-◌, ◌<◌, ◌≤◌, ◌^◌, OnOk, OnErr, ◌∷◌, Some, None, length, map};
 ghost use Rattle.std.specs.Prelude.{slice_index, slice_index_or, slice_set, vec_capacity, vec_len};
 ghost use Rattle.std.specs.Option.{option_map};
 ghost use Rattle.hopen.specs.Vocabulary.{closing, is_hole, kept_kind, nearest_up, open_of, opened_by, set_node, sets_at, stack_of, tag_of};
@@ -52,13 +52,6 @@ pub(crate) struct LastLevels {
     pub(crate) holes: u32,
 }
 
-/// The level of a number; 0 if the table does not reach it.
-fn level_at(levels: &[u32], number: usize) -> u32
-    ensures { result ≡ slice_index levels.now number }
-{
-    levels.get(number).copied().unwrap_or(0)
-}
-
 /// How many numbers a table grows by at least: numbers mostly come in order, so the next ones have room then.
 const GROWTH: usize = 64;
 
@@ -102,7 +95,7 @@ impl Kind {
 
     /// 1 for a node that may not be open at the end of the body, else 0.
     #[inline(always)]
-    fn closing(self) -> u32
+    pub(crate) fn closing(self) -> u32
         ensures { result ≡ closing self }
     {
         match self {
@@ -154,18 +147,18 @@ impl KeptNode {
 }
 
 impl LastLevels {
-    /// The nearest level of a name.
+    /// The nearest level of a name; 0 if the table does not reach it.
     pub(crate) fn of_name(&self, name: NameId) -> u32
         ensures { result ≡ slice_index self.now.names.items name }
     {
-        level_at(&self.names, name.index())
+        self.names.get(name.index()).copied().unwrap_or(0)
     }
 
-    /// The nearest level of a node.
+    /// The nearest level of a node; 0 if the table does not reach it.
     pub(crate) fn of_node(&self, node: NodeId) -> u32
         ensures { result ≡ slice_index self.now.nodes.items node }
     {
-        level_at(&self.nodes, node.index())
+        self.nodes.get(node.index()).copied().unwrap_or(0)
     }
 
     /// Makes room for a node and its name.
@@ -181,32 +174,6 @@ impl LastLevels {
         make_room(&mut self.nodes, node.index())
     }
 
-    /// Writes the levels of a node and of its name.
-    #[inline(always)]
-    fn set(&mut self, opened: Open, of_name: u32, of_node: u32)
-        requires { HasRoom self.old opened }
-        ensures names { self.new.names.items ≡ slice_set self.old.names.items opened.name of_name }
-        ensures nodes { self.new.nodes.items ≡ slice_set self.old.nodes.items opened.node of_node }
-        ensures closes { self.new.must_close ≡ self.old.must_close }
-        ensures tables { AreAsLong self.new self.old }
-    {
-        self.names[opened.name.index()] = of_name;
-        self.nodes[opened.node.index()] = of_node;
-    }
-
-    /// Notes that a node of a kind, which was open once, is closed.
-    pub(crate) fn forget(&mut self, node: NodeId, kind: Kind)
-        requires node { node < length self.old.nodes.items }
-        requires counted { closing kind ≤ self.old.must_close }
-        ensures names { self.new.names.items ≡ self.old.names.items }
-        ensures nodes { self.new.nodes.items ≡ slice_set self.old.nodes.items node 0 }
-        ensures closes { self.new.must_close ≡ self.old.must_close - closing kind }
-        ensures holes { self.new.holes ≡ self.old.holes }
-    {
-        self.nodes[node.index()] = 0;
-        self.must_close -= kind.closing();
-    }
-
     /// Notes that the node of the lowest item is closed: what the item kept is the nearest again.
     #[inline(always)]
     pub(crate) fn take_back(&mut self, item: &KeptNode)
@@ -217,7 +184,8 @@ impl LastLevels {
         ensures closes { self.new.must_close ≡ self.old.must_close - closing item.now.kind }
         ensures tables { AreAsLong self.new self.old }
     {
-        self.set(item.opened, item.same_name, item.same_node);
+        self.names[item.opened.name.index()] = item.same_name;
+        self.nodes[item.opened.node.index()] = item.same_node;
         self.must_close -= item.kind.closing();
     }
 }
@@ -264,7 +232,7 @@ pub(crate) fn hint(items: &mut [KeptNode], level: u32, next: u32)
 }
 
 /// Takes the nodes of the slots from an index on out of the tables, the last one first.
-fn unwind(last: &mut LastLevels, items: &[KeptNode], from: usize)
+pub(crate) fn unwind(last: &mut LastLevels, items: &[KeptNode], from: usize)
     requires stands { LevelsStand last.old items.now }
     requires within { from ≤ length items.now }
     ensures stands { LevelsTo from last.new items.now }
@@ -317,7 +285,8 @@ fn enter(last: &mut LastLevels, items: &mut [KeptNode], index: usize, slot: Kept
     ensures tables { AreAsLong last.new last.old }
 {
     let level = index as u32 + 1;
-    last.set(slot.opened, level, level);
+    last.names[slot.opened.name.index()] = level;
+    last.nodes[slot.opened.node.index()] = level;
     last.must_close += slot.kind.closing();
     hint(items, slot.same_name, level);
 }
@@ -345,7 +314,7 @@ fn settle(last: &mut LastLevels, items: &mut [KeptNode], index: usize)
 }
 
 /// Puts the slots from an index on below those above them again, with the levels that they have now.
-fn rewind(last: &mut LastLevels, items: &mut [KeptNode], from: usize)
+pub(crate) fn rewind(last: &mut LastLevels, items: &mut [KeptNode], from: usize)
     requires stands { LevelsTo from last.old items.old }
     requires within { from ≤ length items.old }
     requires numbers { AreIn last.old (map opened_by items.old) }
@@ -442,22 +411,4 @@ pub(crate) fn replace(last: &mut LastLevels, items: &mut [KeptNode], index: usiz
     } else {
         rewrite(last, items, index, KeptNode::new(Open { node, name }));
     }
-}
-
-/// Inserts a slot for a node at an index, and updates the levels below it.
-pub(crate) fn insert(last: &mut LastLevels, items: &mut Vec<KeptNode>, index: usize, new: Open)
-    requires stands { LevelsStand last.old items.old.items }
-    requires within { index ≤ length items.old.items }
-    requires room { vec_len items.old < vec_capacity items.old }
-    requires levels { length items.old.items + 1 < 2 ^ 32 }
-    requires new_in { HasRoom last.old new }
-    ensures stands { LevelsStand last.new items.new.items }
-    ensures items { map opened_by items.new.items ≡ insert (map opened_by items.old.items) index (Some (open_of new)) }
-    ensures tables { AreAsLong last.new last.old }
-{
-    unwind(last, items, index);
-    if items.insert(index, KeptNode::new(new)).is_err() {
-        unreachable!()
-    }
-    rewind(last, items, index);
 }

@@ -1,10 +1,10 @@
 //! Nodes that leave the stack: the current one, and those that leave from above others, which leave holes.
 
-ghost use Rattle.std.specs.Prelude.{◌≡◌, ◌≢◌, ◌-◌, ◌<◌, ◌≤◌, ◌^◌, true, false, suc, IfSome, None, drop, length, map, reverse, slice_index_or, slice_set};
+ghost use Rattle.std.specs.Prelude.{◌≡◌, ◌≢◌, ◌-◌, ◌<◌, ◌≤◌, ◌^◌, true, false, IfSome, None, drop, length, map, reverse, slice_index_or, slice_set};
 ghost use Rattle.std.specs.Prelude.{vec_capacity, vec_len};
 ghost use Rattle.std.specs.List.{sum_by};
 ghost use Rattle.std.specs.Option.{option_map};
-ghost use Rattle.hopen.specs.Vocabulary.{current, gap, open_of, opened_by, somes, stack_of, AreAsLong, EndsOpen, HasRoom, IsAlone, Rests, LevelsStand};
+ghost use Rattle.hopen.specs.Vocabulary.{current, gap, open_of, opened_by, somes, stack_of, AreAsLong, EndsOpen, HasRoom, Rests, LevelsStand};
 
 use crate::exchange::unlink_name;
 use crate::kept::{KeptNode, LastLevels, append, is_alone, rewrite};
@@ -62,24 +62,6 @@ fn has_gap(items: &[KeptNode]) -> bool {
     len > 2 && items[len - 2].kind.is_hole() && items[len - 3].kind.is_hole()
 }
 
-/// Moves the current node up to the end of the holes right above it, which go.
-fn lift(last: &mut LastLevels, items: &mut Vec<KeptNode>)
-    requires { Rests last.old items.old.items }
-    ensures rests { Rests last.new items.new.items }
-    ensures same { stack_of items.new.items ≡ stack_of items.old.items }
-    ensures tables { (length last.new.names.items ≡ length last.old.names.items) × (length last.new.nodes.items ≡ length last.old.nodes.items) }
-    ensures len { length items.new.items ≤ length items.old.items }
-    ensures capacity { vec_capacity items.old ≤ vec_capacity items.new }
-{
-    let Some(current) = take_last(last, items) else {
-        return;
-    };
-    trim(last, items);
-    if append(last, items, current).is_err() {
-        unreachable!()
-    }
-}
-
 /// Takes away the holes at the end, and where there are two or more right above the current node, those. So what is right above it is found
 /// at once, however many have left from there.
 #[inline(never)]
@@ -94,8 +76,15 @@ fn tidy(last: &mut LastLevels, items: &mut Vec<KeptNode>)
     ensures capacity { vec_capacity items.old ≤ vec_capacity items.new }
 {
     trim(last, items);
-    if has_gap(items) {
-        lift(last, items);
+    if !has_gap(items) {
+        return;
+    }
+    let Some(current) = take_last(last, items) else {
+        return;
+    };
+    trim(last, items);
+    if append(last, items, current).is_err() {
+        unreachable!()
     }
 }
 
@@ -114,24 +103,6 @@ pub(crate) fn pop(last: &mut LastLevels, items: &mut Vec<KeptNode>) -> Option<Op
     Some(closed)
 }
 
-/// Makes a hole of a slot whose node is open nowhere else and not special. It takes constant time.
-fn leave(last: &mut LastLevels, items: &mut [KeptNode], index: usize)
-    requires stands { LevelsStand last.old items.old }
-    requires within { index < length items.old }
-    requires levels { length items.old < 2 ^ 32 }
-    requires alone { (x : KeptNode) → x ≡ slice_index_or items.old index x → IsAlone last.old x (suc index) }
-    ensures stands { LevelsStand last.new items.new }
-    ensures opened { map opened_by items.new ≡ slice_set (map opened_by items.old) index None }
-    ensures tables { AreAsLong last.new last.old }
-{
-    let node = items[index].opened.node;
-    let kind = items[index].kind;
-    unlink_name(&mut last.names, items, index);
-    last.forget(node, kind);
-    let item = items[index];
-    items[index] = item.hole();
-}
-
 /// Makes a hole of a slot. It takes constant time where its node is not special and open nowhere else.
 fn make_hole(last: &mut LastLevels, items: &mut [KeptNode], index: usize)
     requires stands { LevelsStand last.old items.old }
@@ -142,12 +113,18 @@ fn make_hole(last: &mut LastLevels, items: &mut [KeptNode], index: usize)
     ensures opened { map opened_by items.new ≡ slice_set (map opened_by items.old) index None }
     ensures tables { AreAsLong last.new last.old }
 {
-    if is_alone(last, &items[index], index as u32 + 1) {
-        leave(last, items, index);
-    } else {
+    if !is_alone(last, &items[index], index as u32 + 1) {
         let item = items[index];
         rewrite(last, items, index, item.hole());
+        return;
     }
+    let node = items[index].opened.node;
+    let kind = items[index].kind;
+    unlink_name(&mut last.names, items, index);
+    last.nodes[node.index()] = 0;
+    last.must_close -= kind.closing();
+    let item = items[index];
+    items[index] = item.hole();
 }
 
 /// Closes the node of the slot at an index.

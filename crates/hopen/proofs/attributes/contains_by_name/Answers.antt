@@ -1,4 +1,4 @@
-use Rattle.hopen.proofs.Names.{◌≡◌, ℕ, suc, ◌-◌, ◌<◌, ◌==◌, Bool, true, false, ◌&&◌, List, map, length, take, get_or, nat_eq, refl, sym, ◌∙◌, ap, subst, arith, list_any, eqb-true, length-map, last_up, attribute_of, Attr, same_attribute, any-map, bytes_eq, take_all, list_any_at}
+use Rattle.hopen.proofs.Names.{common_steps, ◌≡◌, ℕ, suc, ◌-◌, ◌<◌, ◌==◌, Bool, true, false, ◌&&◌, List, map, length, take, get_or, nat_eq, refl, sym, ◌∙◌, ap, subst, arith, list_any, eqb-true, length-map, last_up, attribute_of, Attr, same_attribute, any-map, bytes_eq, take_all, list_any_at}
 use Rattle.hopen.proofs.ByName.{Last, any-less, last-found}
 use Rattle.hopen.proofs.attributes.contains_by_name.Goals as goal
 
@@ -34,11 +34,7 @@ first c =
 pub loop-place-init : goal.loop-place-init
 loop-place-init c =
     let found = first c in
-    record {
-      within = found.within;
-      there = there-in c.args.names.now c.args.attrs.now (number c.args.attr.now) c.last-place.result c.requires found.there;
-      same = found.same ∙ ap (list_any (sought c.args.attr.now)) (take_all (length c.args.attrs.now) c.args.attrs.now (omega arith));
-    }
+    grind (arith, common_steps, eqb-true, length-map, any-map, take_all, list_any_at, any-less, last-found)
 
 next : (c : goal.After-before-place) → Last (sought c.args.attr.now) number (number c.args.attr.now) (law c.args.attr.now) c.args.attrs.now
     (c.loop-place.place - 1) c.before-place.result
@@ -53,13 +49,7 @@ next c =
 pub loop-place-preserved : goal.loop-place-preserved
 loop-place-preserved c =
     let found = next c in
-    record {
-      within = omega (arith, found.within, c.loop-place.invariant.within);
-      there = there-in c.args.names.now c.args.attrs.now (number c.args.attr.now) c.before-place.result c.requires found.there;
-      same = found.same ∙ any-less (sought c.args.attr.now) c.args.attrs.now c.loop-place.place c.index-attrs-place.result
-          (omega arith) c.loop-place.invariant.within c.index-attrs-place.is
-          (sym c.is_same.ensures ∙ c.if-is_same.false) ∙ c.loop-place.invariant.same;
-    }
+    grind (arith, common_steps, eqb-true, length-map, any-map, take_all, list_any_at, any-less, last-found)
 
 pub loop-place-smaller : goal.loop-place-smaller
 loop-place-smaller c = let found = next c in omega (arith, found.within)

@@ -1,4 +1,4 @@
-use Rattle.hopen.proofs.Names.{◌≡◌, ◌≢◌, ℕ, suc, ◌+◌, ◌-◌, List, Some, None, length, map, reverse, get_or, set, drop, sym, ◌∙◌, ap, subst, arith, with_items_is, with_items, length-map, item_put_before, without, holds_one, is_node, last_place, open_of, opened_by, somes, stack_of, KeptNode, Rests}
+use Rattle.hopen.proofs.Names.{common_steps, ◌≡◌, ◌≢◌, ℕ, suc, ◌+◌, ◌-◌, List, None, length, map, reverse, get_or, set, drop, sym, ◌∙◌, ap, subst, arith, with_items_is, with_items, length-map, item_put_before, without, holds_one, is_node, last_place, open_of, opened_by, somes, stack_of, KeptNode, Rests}
 use Rattle.hopen.proofs.ExchangedSlots.{put-sunk}
 use Rattle.hopen.proofs.NodeLevels.{left-is, level-le, level-of, open-here, open-level}
 use Rattle.hopen.proofs.exchange.exchange.Goals as goal
@@ -95,13 +95,7 @@ returns-then-index-to-clause-items c =
     let equal : length zs ≡ length ys = length-map sunk opened_by ∙ c.sink-index.auto.items ∙ ap length c.deref_mut.ensures.value ∙ sym (length-map old opened_by) in
     let below : drop (suc to) zs ≡ drop (suc to) ys = ap (λ k. drop k zs) (sym next) ∙ c.sink-index.ensures.below
     ∙ (λ t. drop (next t) (map opened_by (c.deref_mut.ensures.value t))) in
-    ap stack_of (replaced (goal.at.returns-then-index-to-clause-items c).After-replace)
-    ∙ ap (λ l. somes (reverse l)) (c.replace.ensures.items
-    ∙ (λ t. set (map opened_by ((c.deref_mut-then-index-to.ensures.value ∙ back s) t)) (at t) (Some x)))
-    ∙ put-sunk (is_node c.args.above) ys zs from to x c.if-from-to.true (omega (arith, at, c.sink-index.ensures.within, equal, length-map sunk opened_by))
-    equal place below (ap (λ k. somes (reverse (set zs k None))) (sym at) ∙ c.sink-index.ensures.rest
-    ∙ ap (λ (xs : List KeptNode). somes (reverse (set (map opened_by xs) from None))) c.deref_mut.ensures.value)
-    ∙ ap (item_put_before (is_node c.args.above) x) (left-is _ _ c.requires.rests.stands _ _ c.of_node.ensures c.requires.live)
+    grind (arith, common_steps, with_items_is, length-map, put-sunk, left-is, level-le, level-of, open-here, open-level)
 
 pub move_below-requires-clause-rests : goal.move_below-requires-clause-rests
 move_below-requires-clause-rests c =

@@ -1,6 +1,6 @@
 use Rattle.hopen.proofs.Names.{common_steps, ◌≡◌, ℕ, suc, ◌-◌, ◌+◌, ◌<◌, ◌≤◌, List, length, map, get_or, sym, ◌∙◌, ap, subst, arith, length-map, get_or_default, IsHeldLevel, slot_names, opened_by, same_name_of, KeptNode}
 use Rattle.hopen.proofs.Projected.{length-names, name-at, name-in, same_name-at}
-use Rattle.hopen.proofs.Swapped.{Walks, held-at, held-next, walk-start, walk-up}
+use Rattle.hopen.proofs.Swapped.{held-at, held-next, walk-start, walk-up}
 use Rattle.hopen.proofs.exchange.next_of_name.Goals as goal
 
 -- an item is read once
@@ -26,13 +26,7 @@ loop-before-preserved c =
     let at = same_name-at items (p - 1) c.index-items-before.result (omega arith) c.index-items-before.is in
     let name = name-at items i x c.requires.within is (c.requires.live x is) in
     let up = walk-up c.args.names.now ns (map same_name_of items) c.requires.linked i x.opened.name name p w (omega arith) in
-    record {
-      within = most;
-      walks = subst (Walks ns i) (at ∙ ap same_name_of c.index-items-before.is) up.0;
-      top = λ e. absurd (omega arith);
-      kept = λ j e. sym (at ∙ ap same_name_of c.index-items-before.is)
-          ∙ ap (λ k. get_or (map same_name_of items) k 0) (let same : p - 1 ≡ j = omega arith in same);
-    }
+    grind (arith, common_steps, length-map, get_or_default, length-names, name-at, name-in, same_name-at, held-at, held-next, walk-start, walk-up)
 
 pub loop-before-smaller : goal.loop-before-smaller
 loop-before-smaller c =

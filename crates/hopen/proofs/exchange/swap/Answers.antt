@@ -1,53 +1,59 @@
-use Rattle.hopen.proofs.Names.{◌≡◌, ℕ, suc, ◌+◌, ◌<◌, false, List, length, map, get_or, set, None, refl, sym, ◌∙◌, ap, transport, arith, with_items_is, exchanged, is_hole_kind, slot_names, open_of, opened_by, tag_of, is_special, IsLinked, KeptNode, OpenNode}
+use Rattle.hopen.proofs.Names.{◌≡◌, ℕ, suc, ◌+◌, ◌<◌, List, length, map, get_or, set, None, refl, sym, ◌∙◌, ap, transport, get_or_default, arith, length-map, map-set, with_items_is, exchanged, kept_kind_at, slot_names, open_of, opened_by, same_name_of, same_node_of, sets_at, IsLinked, KeepSets, KeptNode}
 use Rattle.hopen.specs.declared.kept.Kind.TheVariants as kind
-use Rattle.hopen.proofs.Passed.{stands-passed}
-use Rattle.hopen.proofs.Projected.{live-of, opened-at, part-at}
+use Rattle.hopen.proofs.Passed.{sets-exchanged, stands-passed}
+use Rattle.hopen.proofs.Projected.{opened-at, part-at, two-same, two-upper}
 use Rattle.hopen.proofs.exchange.swap.Goals as goal
 
--- an item of another vector that has the same open
-module _ (items new : List KeptNode) (opened : map opened_by new ≡ map opened_by items) (i : ℕ) (x : KeptNode) (h : i < length items)
-    (is : x ≡ get_or items i x) (live : is_hole_kind x.kind ≡ false)
-    (z : KeptNode) (within : i < length new) (at : z ≡ get_or new i z) where
-  open-still : (is_hole_kind z.kind ≡ false) × (open_of z.opened ≡ open_of x.opened)
-  open-still = live-of z (open_of x.opened) (sym (part-at opened_by None new i z within at) ∙ ap (λ ys. get_or ys i None) opened
-      ∙ opened-at items i x h is live)
+-- two items are written, in a vector that keeps the same of each, where each has what the other one had
+module _ (items alike : List KeptNode) (i j : ℕ) (a b x y : KeptNode) (less : i < j) (within : j < length items) (first : x ≡ get_or items i x)
+    (second : y ≡ get_or items j y) where
+  moved : {Y : Type 0} (f : KeptNode → Y) (d : Y) → map f alike ≡ map f items → f a ≡ f y → f b ≡ f x
+      → map f (set (set alike i a) j b) ≡ exchanged i j d (map f items)
+  moved f d same e g =
+      map-set f (set alike i a) j b ∙ ap (λ l. set l j (f b)) (map-set f alike i a)
+      ∙ (λ t. set (set (same t) i ((e ∙ sym (part-at f d items j y within second)) t)) j ((g ∙ sym (part-at f d items i x (omega arith) first)) t))
 
-pub swap_items-requires-clause-upper : goal.swap_items-requires-clause-upper
-swap_items-requires-clause-upper c = λ z at.
-    let x = c.index-items-index.result in
-    let is = c.index-items-index.is in
+pub returns-clause-opened : goal.returns-clause-opened
+returns-clause-opened c =
     let p = c.requires.can_pass in
-    let upper = p.upper x is in
-    let front : c.args.index < length c.args.items.now = omega (arith, p.order, p.within) in
-    let still = open-still c.args.items.now c.swap_names.new.items c.swap_names.ensures.rest.opened c.args.index x front is upper.0 z
-    (omega (arith, front, c.swap_names.auto.items)) at in
-    (still.0, ap (λ (o : OpenNode ℕ). is_special (tag_of o.name)) still.1 ∙ upper.1)
-
-pub swap_items-requires-clause-lower : goal.swap_items-requires-clause-lower
-swap_items-requires-clause-lower c = λ z at.
-    let items = c.args.items.now in
-    let y = c.index-items-below.result in
-    let is = c.index-items-below.is in
-    let p = c.requires.can_pass in
-    let lower = p.lower y is in
-    let still = open-still items c.swap_names.new.items c.swap_names.ensures.rest.opened c.args.below y p.within is lower.0 z
-    (omega (arith, p.within, c.swap_names.auto.items)) at in
-    still.0
+    moved c.args.items.now c.swap_names.new.items c.args.index c.args.below _ _ c.index-items-index-2.result c.index-items-below-2.result p.order p.within
+    c.index-items-index-2.is c.index-items-below-2.is opened_by None c.swap_names.ensures.rest.opened refl refl
 
 pub returns-clause-stands : goal.returns-clause-stands
 returns-clause-stands c =
-    let items = c.args.items.now in
+    let items : List KeptNode = c.args.items.now in
+    let alike : List KeptNode = c.swap_names.new.items in
     let i = c.args.index in
     let j = c.args.below in
+    let x : KeptNode = c.index-items-index-2.result in
+    let y : KeptNode = c.index-items-below-2.result in
+    let first = c.index-items-index-2.is in
+    let second = c.index-items-below-2.is in
+    let risen : KeptNode = c.index-items-index-3.result in
+    let sunk : KeptNode = c.index-items-below-3.result in
+    let a : KeptNode = record risen { opened = y.opened; same_node = y.same_node; sets = y.sets; kind = y.kind } in
+    let b : KeptNode = record sunk { opened = x.opened; same_node = x.same_node; kind = x.kind } in
+    let new : List KeptNode = set (set alike i a) j b in
     let last = c.args.last.now in
-    let moved = c.swap_items.ensures in
+    let p = c.requires.can_pass in
     let rest = c.swap_names.ensures.rest in
+    let front : i < length items = omega (arith, p.order, p.within) in
+    let many = length-map items opened_by in
     let up : i + 1 ≡ suc i = omega arith in
     let down : j + 1 ≡ suc j = omega arith in
-    stands-passed last items i j c.requires.stands c.requires.can_pass c.index-items-index.result c.index-items-below.result c.index-items-index.is
-    c.index-items-below.is _ c.swap_items.new.items
-    (moved.opened ∙ ap (exchanged i j None) rest.opened) (moved.same_nodes ∙ ap (exchanged i j 0) rest.same_nodes)
+    let opened = moved items alike i j a b x y p.order p.within first second opened_by None rest.opened refl refl in
+    let names : map same_name_of new ≡ map same_name_of alike = two-same same_name_of alike i j a b risen p.order (ap same_name_of c.index-items-index-3.is)
+    (ap same_name_of (c.index-items-below-3.is ∙ get_or_default alike j sunk risen (omega (arith, p.within, c.swap_names.auto.items)))) in
+    let sets : map sets_at new ≡ set (map sets_at items) i y.sets =
+    two-upper sets_at alike i j a b sunk p.order (ap sets_at c.index-items-below-3.is) ∙ ap (λ l. set l i y.sets) rest.sets in
+    stands-passed last items i j c.requires.stands p c.index-items-index.result c.index-items-below.result c.index-items-index.is c.index-items-below.is _ new opened
+    (moved items alike i j a b x y p.order p.within first second same_node_of 0 rest.same_nodes refl refl)
     (transport (λ t. IsLinked (sym (with_items_is last.names c.swap_names.new.names (c.swap_names.auto.names ∙ c.deref_mut.ensures.len)) t)
-    (exchanged i j 0 (slot_names (map opened_by items))) (sym moved.same_names t)) c.swap_names.ensures.linked)
-    (λ t. set (set last.nodes.items (c.index.ensures t) (down t)) (c.index-2.ensures t) (up t))
-    moved.sets (moved.kinds ∙ ap (exchanged i j kind.Hole) rest.kinds) refl
+    (exchanged i j 0 (slot_names (map opened_by items))) (sym names t)) c.swap_names.ensures.linked)
+    (λ t. set (set last.nodes.items ((c.index.ensures ∙ ap (λ (z : KeptNode). z.opened.node) (sym c.index-items-index.is)) t) (down t))
+    ((c.index-2.ensures ∙ ap (λ (z : KeptNode). z.opened.node) (sym c.index-items-below.is)) t) (up t))
+    (transport (λ t. KeepSets (sym opened t) (sym sets t))
+    (sets-exchanged (map opened_by items) i j (open_of x.opened) (open_of y.opened) p.order (omega (arith, p.within, many)) p.holes
+    (opened-at items i x front first (p.upper x first).0) (opened-at items j y p.within second (p.lower y second).0) (p.upper x first).1 (map sets_at items) y.sets
+    (length-map items sets_at ∙ sym many) c.requires.stands.sets (sym (part-at sets_at y.sets items j y p.within second))))
+    (moved items alike i j a b x y p.order p.within first second kept_kind_at kind.Hole rest.kinds refl refl) refl

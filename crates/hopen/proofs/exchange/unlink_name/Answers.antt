@@ -1,4 +1,4 @@
-use Rattle.hopen.proofs.Names.{common_steps, ◌≡◌, ◌≢◌, ℕ, suc, ◌+◌, ◌&&◌, eqb, cond, List, length, map, get_or, set, sym, ◌∙◌, ap, subst, arith, get_or-set_same, get_or-set_other, length-map, IsHeldLevel, slot_names, opened_by, same_name_of, KeptNode}
+use Rattle.hopen.proofs.Names.{common_steps, ◌≡◌, ◌≢◌, ℕ, suc, ◌+◌, ◌&&◌, eqb, cond, List, length, map, get_or, set, sym, ◌∙◌, ap, subst, arith, get_or-set_same, get_or-set_other, length-map, IsHeldLevel, same_name_of, KeptNode}
 use Rattle.hopen.proofs.Projected.{held-within, length-names, name-in, same_name-at}
 use Rattle.hopen.proofs.Swapped.{linked-left}
 use Rattle.hopen.proofs.exchange.unlink_name.Goals as goal
@@ -28,6 +28,4 @@ returns-clause-linked c =
     get_or-set_other new i m 0 0 ne ∙ ap (λ (l : List ℕ). get_or l m 0) c.hint.ensures.same_names ∙ c.keep.ensures.befores m
     ∙ ap (λ b. cond (eqb n (suc m)) b (get_or bs m 0)) level in
     let long : length new ≡ length items = omega (arith, length-map c.hint.new.items same_name_of, c.hint.auto.items, c.keep.auto.items) in
-    linked-left t (slot_names (map opened_by items)) bs c.requires.linked i x.opened.name n
-    (omega (arith, c.requires.within, length-names items)) held c.keep.new.names
-    (set new i 0) table list (get_or-set_same new i 0 0 (omega (arith, c.requires.within)))
+    grind (arith, common_steps, get_or-set_same, get_or-set_other, length-map, held-within, length-names, name-in, same_name-at, linked-left)

@@ -57,7 +57,5 @@ returns-clause-rest c = sym (ap (drop 1) (popped _ _ _ c.in_ok-item.ensures.item
 pub returns-clause-some : goal.returns-clause-some
 returns-clause-some c =
     let known = room _ _ _ c.in_ok-item.ensures.items _ c.requires in
-    let long = c.take_back.ensures.tables in (
-      (omega (arith, known.0, long.names), omega (arith, known.1, long.nodes)),
-      omega (arith, ap length c.in_ok-item.ensures.items, length-append c.pop.new.self.items (c.in_ok-item.item ∷ [])),
-    )
+    let long = c.take_back.ensures.tables in
+    grind (arith, common_steps, length-append)
