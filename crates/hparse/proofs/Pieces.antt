@@ -1,10 +1,9 @@
 -- What one piece more does to a reading, and what the input's end does.
-use Rattle.hparse.proofs.Names.{◌≡◌, ℕ, ◌-◌, Bool, true, false, cond, eqb, List, [], ◌∷◌, ◌++◌, length, map, Option, None, Some, sym, refl, ap, ◌∙◌, subst, Result, Ok, Err, append-nil, append_assoc, inl, inr, ◌⊎◌, AreNames, ParseError, Placed, Refusal, Memory, Hands, BadBytes, Policy, Read, CharItem, items, characters_among, errors_among, HasFed, start_kind, Tok, Event, Item, IsRefused, AreFront, tokens_in, Reading, Manner, Began, settled_in, reads_in, WasHanded, IsRefusedFor, by_sink, by_tag, by_bytes, by_memory, Comes, Intake, HoldsItems, TakesItems, items_ran_out, items_stopped, items_refused, items_taken, Proceeds, EndsText, text_ran_out, text_stopped, text_taken, Refuses, HasRead, FeedsPiece, piece_refused, piece_read, EndsInput, characters_among-items}
+use Rattle.hparse.proofs.Names.{◌≡◌, ℕ, ◌-◌, Bool, true, false, cond, eqb, List, [], ◌∷◌, ◌++◌, length, map, Option, None, Some, sym, refl, ap, ◌∙◌, subst, Result, Ok, Err, append-nil, append_assoc, inl, inr, ◌⊎◌, AreNames, ParseError, Placed, Refusal, Memory, Hands, BadBytes, Policy, Read, CharItem, items, characters_among, errors_among, HasFed, start_kind, Event, Item, IsRefused, AreFront, tokens_in, Reading, Manner, Began, settled_in, reads_in, WasHanded, IsRefusedFor, by_sink, by_tag, by_bytes, by_memory, Comes, Intake, HoldsItems, TakesItems, items_ran_out, items_stopped, items_refused, items_taken, Proceeds, EndsText, text_ran_out, text_stopped, text_taken, Refuses, HasRead, FeedsPiece, piece_refused, piece_read, EndsInput, characters_among-items}
 use Rattle.std.specs.Str.Lossy.{utf8_valid_len}
 use Rattle.std.proofs.lemmas.Bool.{eqb-true}
 use Rattle.std.proofs.lemmas.List.{map-append}
 use Rattle.names.specs.declared.refusal.Refusal.TheVariants.{NotUtf8, TooLarge, OutOfProfile}
-use Rattle.names.specs.declared.raw.RefusedName.{RefusedName}
 use Rattle.htext.specs.declared.BadBytes.TheVariants as bad
 use Rattle.htext.specs.Text.{character_of, read_len, refusal_of, refusal_with}
 use Rattle.htext.specs.Decoding.{Feeds, ran_out, sink_refused, took_all, EndsDecoding, end_refused, end_reached, HandsOn, answer_at_end}
@@ -66,25 +65,29 @@ module _ {S : Type 0} (gives : S → Item → Result (Unit {0}) Refusal → S �
   was_taken before x new (items_refused name at tokens errors e noted handed refused) = absurd cc
   was_taken before x new (items_taken e held) = held
 
-  -- a text is refused, whatever comes after these items
-  data Stops (e : Refusal) (new : Intake S) (xs : List CharItem) : Type 0 where
-    in_memory : (events : List Event) (errors : List ParseError) → e ≡ Memory → new.stopped ≡ true → WasHanded gives new.names began (tokens_in events) errors (Ok tt) new.sink
-        → ((end : ℕ) → AreFront m.table (start_kind m.start) (characters_among xs) end events) → Stops e new xs
-    in_sink : (events : List Event) (errors : List ParseError) → new.stopped ≡ true → WasHanded gives new.names began (tokens_in events) errors (Err e) new.sink
-        → ((end : ℕ) → AreFront m.table (start_kind m.start) (characters_among xs) end events) → Stops e new xs
-    in_tag : (name : RefusedName) (at : ℕ) (tokens : List Tok) (errors : List ParseError) → e ≡ OutOfProfile name at → new.stopped ≡ true → WasHanded gives new.names began tokens errors (Ok tt) new.sink
-        → ((end : ℕ) → IsRefused m.table (start_kind m.start) (characters_among xs) end tokens name at) → Stops e new xs
+  -- an input of this text is refused
+  abbrev Stops : Refusal → Intake S → List CharItem → Type 0
+  Stops e new xs = (new.stopped ≡ true) × ((bytes : List ℕ) → characters_among xs ≡ input_text m bytes → IsRefusedFor gives m began bytes new.names new.sink e)
 
   was_refused : (before : List CharItem) (x : CharItem) (more : List CharItem) (new : Intake S) (e : Refusal) → TakesItems gives m began before (x ∷ []) (Err e) new → Stops e new (before ++ x ∷ more)
   was_refused before x more new e (items_ran_out events errors is noted handed front) =
-      let why : e ≡ Memory = cc in
-      in_memory events errors why noted handed (λ end. front more end)
+      let why : Memory ≡ e = cc in (
+        noted,
+        λ bytes text. subst (IsRefusedFor gives m began bytes new.names new.sink) why
+            (by_memory events errors handed (subst (λ (t : List Placed). AreFront m.table (start_kind m.start) t (end_in m bytes) events) text (front more (end_in m bytes)))),
+      )
   was_refused before x more new e (items_stopped r events errors is noted handed front) =
-      let same : r ≡ e = cc in
-      in_sink events errors noted (subst (λ (y : Refusal). WasHanded gives new.names began (tokens_in events) errors (Err y) new.sink) same handed) (λ end. front more end)
+      let same : r ≡ e = cc in (
+        noted,
+        λ bytes text. subst (IsRefusedFor gives m began bytes new.names new.sink) same
+            (by_sink r events errors handed (subst (λ (t : List Placed). AreFront m.table (start_kind m.start) t (end_in m bytes) events) text (front more (end_in m bytes)))),
+      )
   was_refused before x more new e (items_refused name at tokens errors is noted handed refused) =
-      let why : e ≡ OutOfProfile name at = cc in
-      in_tag name at tokens errors why noted handed (λ end. refused more end)
+      let why : OutOfProfile name at ≡ e = cc in (
+        noted,
+        λ bytes text. subst (IsRefusedFor gives m began bytes new.names new.sink) why
+            (by_tag name at tokens errors handed (subst (λ (t : List Placed). IsRefused m.table (start_kind m.start) t (end_in m bytes) tokens name at) text (refused more (end_in m bytes)))),
+      )
   was_refused before x more new e (items_taken is held) = absurd cc
 
   -- items that were handed over, one after another
@@ -115,20 +118,7 @@ module _ {S : Type 0} (gives : S → Item → Result (Unit {0}) Refusal → S �
 
   -- so the input is refused
   stops_input : (bytes : List ℕ) (e : Refusal) (t : Intake S) → Stops e t (items (reads_in m bytes)) → (t.stopped ≡ true) × IsRefusedFor gives m began bytes t.names t.sink e
-  stops_input bytes e t (in_memory events errors why noted handed front) = (
-    noted,
-    subst (IsRefusedFor gives m began bytes t.names t.sink) (sym why)
-        (by_memory events errors handed (subst (λ (x : List Placed). AreFront m.table (start_kind m.start) x (end_in m bytes) events) (characters_among-items (reads_in m bytes)) (front (end_in m bytes)))),
-  )
-  stops_input bytes e t (in_sink events errors noted handed front) = (
-    noted,
-    by_sink e events errors handed (subst (λ (x : List Placed). AreFront m.table (start_kind m.start) x (end_in m bytes) events) (characters_among-items (reads_in m bytes)) (front (end_in m bytes))),
-  )
-  stops_input bytes e t (in_tag name at tokens errors is noted handed refused) = (
-    noted,
-    subst (IsRefusedFor gives m began bytes t.names t.sink) (sym is)
-        (by_tag name at tokens errors handed (subst (λ (x : List Placed). IsRefused m.table (start_kind m.start) x (end_in m bytes) tokens name at) (characters_among-items (reads_in m bytes)) (refused (end_in m bytes)))),
-  )
+  stops_input bytes e t (noted, refused) = (noted, refused bytes (characters_among-items (reads_in m bytes)))
 
   -- memory ran out once this was held
   pub ran_out_after : (bytes more : List ℕ) (feeding : Intake S) → HoldsItems gives m began feeding (items (settled_in m bytes)) → IsRefusedFor gives m began (bytes ++ more) feeding.names feeding.sink Memory
