@@ -1,5 +1,5 @@
 -- What is tested of a plain document is what its definition asks.
-use Rattle.hserialize.proofs.Names.{◌≡◌, ℕ, ◌<◌, Bool, true, false, not, cond, List, [], Some, None, refl, sym, ◌∙◌, ap, arith, ◌&&◌, map, option_map, Option, tag_of, tag_named, Tag, AreCounted, What, element, doctype, comment, text, Forest, none, tree, children_of, mapped, mapped_what, mapped_attribute, Spot, spot_of, first_or, first_child_of, next_of, what_of, row, takes_role, texts_in, Inside, inside_element, inside_node, are_plain_attributes, codes, IfSome, bytes_eq, is_some, is_none, takes_comments, tree_in, trees_from, past_leaves, ArePassed, IsDoctypePassed, is_plain_doctype_what, is_plain_doctype_at, is_leaf_what, is_leaf_at, is_last_text, is_text_alone, is_metadata_what, is_metadata_at, is_named_what, is_last_at, is_head_at, are_content, begins_with_text, is_plain_text, ends_document, is_leaf, leaves_then, comments_then, doctype_then, element_then, is_metadata, inside_head, are_metadata, are_in_html, body_on, html_on, is_plain_document, is_text_node, is_text_at, is_empty_text, Role, join, join-assoc, list_all, roots}
+use Rattle.hserialize.proofs.Names.{◌≡◌, ℕ, ◌<◌, Bool, true, false, not, cond, List, [], Some, None, refl, sym, ◌∙◌, ap, arith, ◌&&◌, map, option_map, Option, tag_of, tag_named, Tag, AreCounted, What, element, doctype, comment, text, Forest, none, tree, children_of, mapped, mapped_what, mapped_attribute, Spot, spot_of, first_or, first_child_of, next_of, what_of, row, takes_role, texts_in, Inside, inside_element, inside_node, are_plain_attributes, codes, IfSome, bytes_eq, is_some, is_none, takes_comments, tree_in, trees_from, past_leaves, ArePassed, IsDoctypePassed, is_plain_doctype_what, is_plain_doctype_at, is_leaf_what, is_leaf_at, is_last_text, is_text_alone, is_metadata_what, is_metadata_at, is_named_what, are_content, begins_with_text, is_plain_text, ends_document, is_leaf, leaves_then, comments_then, doctype_then, element_then, is_metadata, inside_head, are_metadata, are_in_html, body_on, html_on, is_plain_document, is_text_node, is_text_at, is_empty_text, Role, join, join-assoc, list_all, roots}
 use Rattle.hserialize.proofs.Following.{IsFirst, child, child-made, first-at, first-made, children-from}
 use Rattle.hserialize.specs.declared.content.Texts.{Texts as Allowed}
 use Rattle.hserialize.specs.declared.content.Texts.TheVariants as texts
@@ -69,9 +69,6 @@ in_metadata _ g h = absurd cc
 swapped : (a b c : Bool) → (a && b && c) ≡ ((c && a) && b)
 swapped a b c = grind (arith)
 
-grouped : (a b c : Bool) → (a && b && c) ≡ ((a && b) && c)
-grouped a b c = grind (arith)
-
 named_first : (a b c d : Bool) → (a && b && c && d) ≡ ((a && b) && c && d)
 named_first a b c d = grind (arith)
 
@@ -103,9 +100,9 @@ module _ (spelling : ℕ → List ℕ) (f : Forest ℕ) where
       go None = refl
       go (Some s) = at s s.what
 
-  leaf : (allowed : Allowed) (n : ℕ) (a : IsFirst n f) → is_leaf_at allowed n f
+  leaf-is : (allowed : Allowed) (n : ℕ) (a : IsFirst n f) → is_leaf_at allowed n f
       ≡ is_leaf allowed (mapped_what spelling a.what) (mapped spelling a.kids) (mapped spelling a.rest)
-  leaf allowed n a =
+  leaf-is allowed n a =
       (λ k. is_leaf_what allowed (a.is k) ((ap is_none a.first ∙ childless a.kids) k) ((before_text (next_of n f)
       ∙ ap (λ g. begins_with_text (mapped spelling g)) a.after) k))
       ∙ go a.what
@@ -117,22 +114,23 @@ module _ (spelling : ℕ → List ℕ) (f : Forest ℕ) where
       go _ = refl
 
   -- past what a list begins with
-  pub past : (allowed : Allowed) (next : Forest (List ℕ) → Bool) (o to : Option ℕ) → ArePassed allowed o to f → leaves_then allowed next (from o)
+  pub past : (allowed : Allowed) (next : Forest (List ℕ) → Bool) (p o to : Option ℕ) → o ≡ p → ArePassed allowed o to f → leaves_then allowed next (from p)
       ≡ next (from to)
-  past allowed next o to passed = leaves allowed next (from o) ∙ ap next (passed spelling)
+  past allowed next p o to same passed = ap (λ q. leaves_then allowed next (from q)) (sym same) ∙ leaves allowed next (from o) ∙ ap next (passed spelling)
 
-  pub past-step : (allowed : Allowed) (n : ℕ) (a : IsFirst n f) → past_leaves allowed (from (Some n))
-      ≡ cond (is_leaf_at allowed n f) (past_leaves allowed (from (next_of n f))) (from (Some n))
-  past-step allowed n a =
-      ap (λ g. past_leaves allowed (mapped spelling g)) a.trees
-      ∙ (λ k. cond (sym (leaf allowed n a) k) (past_leaves allowed (mapped spelling (sym a.after k))) (mapped spelling (sym a.trees k)))
+  pub past-step : (allowed : Allowed) (o : Option ℕ) (n : ℕ) (a : IsFirst n f) (leaf : Bool) → o ≡ Some n → leaf ≡ is_leaf_at allowed n f
+      → past_leaves allowed (from o) ≡ cond leaf (past_leaves allowed (from (next_of n f))) (from (Some n))
+  past-step allowed o n a leaf is tested =
+      ap (λ o. past_leaves allowed (from o)) is ∙ ap (λ g. past_leaves allowed (mapped spelling g)) a.trees
+      ∙ (λ k. cond (sym (tested ∙ leaf-is allowed n a) k) (past_leaves allowed (mapped spelling (sym a.after k))) (mapped spelling (sym a.trees k)))
 
-  pub doctype-step : (n : ℕ) (a : IsFirst n f) → doctype_then (comments_then html_on) (from (Some n))
-      ≡ cond (is_plain_doctype_at n f) (comments_then html_on (from (next_of n f))) (comments_then html_on (from (Some n)))
-  doctype-step n a =
-      ap (λ g. doctype_then (comments_then html_on) (mapped spelling g)) a.trees ∙ go a.what
+  pub doctype-step : (o : Option ℕ) (n : ℕ) (a : IsFirst n f) (plain : Bool) → o ≡ Some n → plain ≡ is_plain_doctype_at n f → doctype_then (comments_then html_on) (from o)
+      ≡ cond plain (comments_then html_on (from (next_of n f))) (comments_then html_on (from (Some n)))
+  doctype-step o n a plain is tested =
+      ap (λ o. doctype_then (comments_then html_on) (from o)) is ∙ ap (λ g. doctype_then (comments_then html_on) (mapped spelling g)) a.trees ∙ go a.what
       ∙ (λ k. cond (is_plain_doctype_what (sym a.is k) (sym (ap is_none a.first ∙ childless a.kids) k))
       (comments_then html_on (mapped spelling (sym a.after k))) (comments_then html_on (mapped spelling (sym a.trees k))))
+      ∙ ap (λ u. cond u (comments_then html_on (from (next_of n f))) (comments_then html_on (from (Some n)))) (sym tested)
     where
       go : (w : What ℕ) → doctype_then (comments_then html_on) (mapped spelling (tree n w a.kids a.rest))
           ≡ cond (is_plain_doctype_what (Some w) (ends_document (mapped spelling a.kids))) (comments_then html_on (mapped spelling a.rest))
@@ -155,30 +153,12 @@ module _ (spelling : ℕ → List ℕ) (f : Forest ℕ) where
       go _ = refl
 
   module _ (made : ℕ) (counted : AreCounted made f) where
-    -- body, and html
-    pub last-is : (x : List ℕ) (children : Forest (List ℕ) → Bool) (n : ℕ) → n < made
-        → element_then x children (comments_then ends_document) (from (Some n)) ≡ (is_last_at spelling x n f && children (mapped spelling (children_of n f)))
-    last-is x children n h =
-        element-step x children (comments_then ends_document) n (first-at made f counted n h)
-        ∙ swapped (is_named_what spelling x (what_of n f)) (children (mapped spelling (children_of n f))) (comments_then ends_document (from (next_of n f)))
-
     -- the children of html, where this is what their comments end with
     pub in-html : (q : ℕ) (o to : Option ℕ) → q < made → o ≡ first_child_of q f → ArePassed texts.None o to f
         → are_in_html (mapped spelling (children_of q f)) ≡ element_then (codes "head") are_metadata (leaves_then texts.WhiteSpace body_on) (from to)
     in-html q o to h same passed =
         ap (λ g. are_in_html (mapped spelling g)) (sym (children-from made f counted q h) ∙ ap (λ o. trees_from o f) (sym same))
-        ∙ past texts.None (element_then (codes "head") are_metadata (leaves_then texts.WhiteSpace body_on)) o to passed
-
-    -- where it is this head, and this is what the comments and the white space after it end with
-    pub html-is : (q n : ℕ) (o p to : Option ℕ) → q < made → o ≡ first_child_of q f → ArePassed texts.None o (Some n) f → n < made → p ≡ next_of n f → ArePassed texts.WhiteSpace p to f
-        → are_in_html (mapped spelling (children_of q f)) ≡ (is_head_at spelling n f && body_on (from to))
-    html-is q n o p to h same passed h' same' passed' =
-        in-html q o (Some n) h same passed
-        ∙ element-step (codes "head") are_metadata (leaves_then texts.WhiteSpace body_on) n (first-at made f counted n h')
-        ∙ grouped (is_named_what spelling (codes "head") (what_of n f)) (are_metadata (mapped spelling (children_of n f)))
-        (leaves_then texts.WhiteSpace body_on (from (next_of n f)))
-        ∙ ap (λ o. is_head_at spelling n f && leaves_then texts.WhiteSpace body_on (from o)) (sym same')
-        ∙ ap (λ u. is_head_at spelling n f && u) (past texts.WhiteSpace body_on p to passed')
+        ∙ past texts.None (element_then (codes "head") are_metadata (leaves_then texts.WhiteSpace body_on)) o o to refl passed
 
     -- a document, past its comments, its doctype and its other comments
     pub document-is : (q : ℕ) (r o p to : Option ℕ) → q < made → r ≡ first_child_of q f → ArePassed texts.None r o f → IsDoctypePassed o p f
@@ -186,19 +166,22 @@ module _ (spelling : ℕ → List ℕ) (f : Forest ℕ) where
         → is_plain_document (mapped spelling (children_of q f)) ≡ html_on (from to)
     document-is q r o p to h same first between last =
         ap (λ g. is_plain_document (mapped spelling g)) (sym (children-from made f counted q h) ∙ ap (λ o. trees_from o f) (sym same))
-        ∙ past texts.None (doctype_then (comments_then html_on)) r o first
+        ∙ past texts.None (doctype_then (comments_then html_on)) r r o refl first
         ∙ between spelling
-        ∙ past texts.None html_on p to last
+        ∙ past texts.None html_on p p to refl last
 
     ended : (o : Option ℕ) → IfSome o (λ n. n < made) → ends_document (from o) ≡ is_none o
     ended None h = refl
     ended (Some n) h = ap (λ g. ends_document (mapped spelling g)) (first-at made f counted n h).trees
 
-    -- comments alone
-    pub comments-end : (o r to : Option ℕ) (u : Bool) → r ≡ o → ArePassed texts.None r to f → IfSome to (λ n. n < made) → is_some to ≡ not u → u
-        ≡ comments_then ends_document (from o)
-    comments-end o r to u same passed within h =
-        none_is to u h ∙ sym (ap (λ o. comments_then ends_document (from o)) (sym same) ∙ past texts.None ends_document r to passed ∙ ended to within)
+    -- body, and html, where this is what the comments after it end with
+    pub last-is : (x : List ℕ) (children : Forest (List ℕ) → Bool) (n : ℕ) (r to : Option ℕ) (u : Bool) → n < made → r ≡ next_of n f → ArePassed texts.None r to f → IfSome to (λ n. n < made)
+        → is_some to ≡ not u → element_then x children (comments_then ends_document) (from (Some n)) ≡ ((u && is_named_what spelling x (what_of n f)) && children (mapped spelling (children_of n f)))
+    last-is x children n r to u h same passed within test =
+        element-step x children (comments_then ends_document) n (first-at made f counted n h)
+        ∙ swapped (is_named_what spelling x (what_of n f)) (children (mapped spelling (children_of n f))) (comments_then ends_document (from (next_of n f)))
+        ∙ ap (λ e. (e && is_named_what spelling x (what_of n f)) && children (mapped spelling (children_of n f)))
+        (past texts.None ends_document (next_of n f) r to same passed ∙ ended to within ∙ sym (none_is to u test))
 
     alone : (allowed : Allowed) (o : Option ℕ) → IfSome o (λ n. n < made) → is_text_alone allowed o f ≡ is_one_text allowed (from o)
     alone allowed None h = refl
@@ -215,7 +198,7 @@ module _ (spelling : ℕ → List ℕ) (f : Forest ℕ) where
     module _ (tags : (id : ℕ) → tag_of id ≡ tag_named (spelling id)) where
       pub metadata-step : (n : ℕ) → n < made → are_metadata (from (Some n)) ≡ (is_metadata_at spelling n f && are_metadata (from (next_of n f)))
       metadata-step n h =
-          ap (λ g. are_metadata (mapped spelling g)) a.trees ∙ go a.what (leaf texts.WhiteSpace n a)
+          ap (λ g. are_metadata (mapped spelling g)) a.trees ∙ go a.what (leaf-is texts.WhiteSpace n a)
           ∙ (λ k. is_metadata_what spelling n f (sym a.is k) && are_metadata (mapped spelling (sym a.after k)))
         where
           a : IsFirst n f

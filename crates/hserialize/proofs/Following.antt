@@ -61,11 +61,14 @@ module _ (made : ℕ) (f : Forest ℕ) (counted : AreCounted made f) where
           (siblings p.parent (join p.left (tree n p.what p.kids none)) p.right (was-made made f counted p.parent (omega (arith, p.one))) (p.is
           ∙ sym (join-assoc p.left (tree n p.what p.kids none) p.right)))
 
+  pub first-of : (o : Option ℕ) (n : ℕ) → o ≡ Some n → IfSome o (λ n. n < made) → IsFirst n f
+  first-of o n is within = first-at n (subst (λ (p : Option ℕ). IfSome p (λ n. n < made)) is within)
+
   -- the siblings after a node are fewer
-  pub shorter : (o : Option ℕ) (n : ℕ) (p : Option ℕ) → n < made → o ≡ Some n → p ≡ next_of n f
+  pub shorter : (o : Option ℕ) (n : ℕ) (p : Option ℕ) → o ≡ Some n → IfSome o (λ n. n < made) → p ≡ next_of n f
       → length (roots (trees_from p f)) < length (roots (trees_from o f))
-  shorter o n p h is next =
-      let a = first-at n h in
+  shorter o n p is within next =
+      let a = first-of o n is within in
       let before : roots (trees_from o f) ≡ n ∷ roots a.rest = ap (λ o. roots (trees_from o f)) is ∙ ap roots a.trees in
       let after : roots (trees_from p f) ≡ roots a.rest = ap (λ o. roots (trees_from o f)) next ∙ ap roots a.after in
       omega (arith, ap length before, ap length after)

@@ -4,6 +4,7 @@ pub mod Seen
 pub mod Runs
 pub mod KnownNames
 pub mod Output
+pub mod Held
 pub mod Finished
 pub mod Escapes
 pub mod Wrote

@@ -14,9 +14,9 @@ pub use Rattle.hnodes.specs.Passed.{way_up, trees_after}
 pub use Rattle.hnodes.specs.Spots.{node_name, spot_of, Spot, first_child_of, name_in, next_of, first_or, parent_of}
 pub use Rattle.hserialize.specs.Calls.{counted, counted_by_result}
 pub use Rattle.hserialize.specs.ContentTable.{row, takes_comments}
-pub use Rattle.hserialize.specs.DocumentTesting.{tree_in, trees_from, past_leaves, ArePassed, IsDoctypePassed, is_plain_doctype_what, is_plain_doctype_at, is_leaf_what, is_leaf_at, is_last_text, is_text_alone, is_metadata_what, is_metadata_at, is_named_what, is_last_at, is_head_at}
+pub use Rattle.hserialize.specs.DocumentTesting.{tree_in, trees_from, past_leaves, ArePassed, IsDoctypePassed, is_plain_doctype_what, is_plain_doctype_at, is_leaf_what, is_leaf_at, is_last_text, is_text_alone, is_metadata_what, is_metadata_at, is_named_what}
 pub use Rattle.hserialize.specs.Lines.{tree_lines, attribute_put_in, between_quotes, identifiers}
-pub use Rattle.hserialize.specs.Output.{Fails, AddsBytes, Taken, text_written, text_cut, EndsOutput, AppendsBeginning, no_buffer}
+pub use Rattle.hserialize.specs.Output.{Fails, AddsBytes, Taken, text_written, text_cut, EndsOutput, IsBegun, AppendsBeginning, no_buffer}
 pub use Rattle.hserialize.specs.Plain.{Inside, inside_element, in_context, in_context_of, inside_node, is_plain_node, are_content, begins_with_text, is_plain_text, is_a, content_within, begins_with, has_part, is_plain_name_byte, is_plain_name, are_content_if, begins_with_line_feed, drops_line_feed, is_plain}
 pub use Rattle.hserialize.specs.PlainDocument.{ends_document, is_leaf, leaves_then, comments_then, doctype_then, element_then, is_metadata, inside_head, are_metadata, are_in_html, body_on, html_on, is_plain_document}
 pub use Rattle.hserialize.specs.Printing.{one_less, depth_after, IsOpenVisit, visit_lines, attribute_count}

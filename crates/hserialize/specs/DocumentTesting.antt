@@ -7,7 +7,7 @@ use Rattle.hnodes.specs.Mapped.{mapped, mapped_attribute}
 use Rattle.hnodes.specs.Spots.{Spot, spot_of, first_child_of, next_of, what_of}
 use Rattle.hserialize.specs.ContentTable.{row, texts_in}
 use Rattle.hserialize.specs.Plain.{are_plain_attributes, is_plain_comment, is_plain_text}
-use Rattle.hserialize.specs.PlainDocument.{are_metadata, comments_then, doctype_then, ends_document, html_on, is_leaf, is_metadata}
+use Rattle.hserialize.specs.PlainDocument.{are_metadata, comments_then, doctype_then, element_then, ends_document, html_on, is_leaf, is_metadata}
 use Rattle.hserialize.specs.Testing.{is_text_at}
 use Rattle.hserialize.specs.Words.{is_empty_text}
 use Rattle.hserialize.specs.declared.content.Texts.{Texts}
@@ -79,9 +79,12 @@ module _ (spelling : ℕ → List ℕ) where
   is_named_what x (Some (element name attrs)) = bytes_eq (spelling name) x && are_plain_attributes (map (mapped_attribute spelling) attrs)
   is_named_what x _ = false
 
-  -- before comments alone
-  abbrev pub is_last_at : List ℕ → ℕ → Forest ℕ → Bool
-  is_last_at x n f = comments_then ends_document (mapped spelling (trees_from (next_of n f) f)) && is_named_what x (what_of n f)
+  -- whether node n is such an element that comments alone follow
+  abbrev pub IsLastAt : List ℕ → (n : ℕ) → Forest ℕ → Bool → Type 0
+  IsLastAt x n f last = (children : Forest (List ℕ) → Bool)
+      → element_then x children (comments_then ends_document) (mapped spelling (trees_from (Some n) f)) ≡ (last && children (mapped spelling (children_of n f)))
 
-  abbrev pub is_head_at : ℕ → Forest ℕ → Bool
-  is_head_at n f = is_named_what (codes "head") (what_of n f) && are_metadata (mapped spelling (children_of n f))
+  -- whether it is the head of a plain document
+  abbrev pub IsHeadAt : (n : ℕ) → Forest ℕ → Bool → Type 0
+  IsHeadAt n f head = (next : Forest (List ℕ) → Bool)
+      → element_then (codes "head") are_metadata next (mapped spelling (trees_from (Some n) f)) ≡ (head && next (mapped spelling (trees_from (next_of n f) f)))

@@ -41,6 +41,12 @@ written_so_far written failed out = record {
   held = out.held.now.items;
 }
 
+-- A writer that holds nothing yet, of the target that has this name and was so.
+pub record IsBegun {W : Type 0} (name : ℕ) (old : W) (out : Writer W) : Type 0 where
+  pub name_is : out.target.ghost_name ≡ name
+  pub same : out.target.now ≡ old
+  pub none : out.held.now.items ≡ []
+
 -- All of the bytes were taken: what was held and then these were handed over, or are held. No call failed.
 pub record AddsBytes (old new : Taken) (bytes : List ℕ) : Type 0 where
   pub name : new.name ≡ old.name

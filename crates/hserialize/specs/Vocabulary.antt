@@ -9,7 +9,7 @@ pub use Rattle.hnodes.specs.Mapped.{mapped, mapped_attribute, mapped_what}
 pub use Rattle.hnodes.specs.Spots.{node_name, what_of, attributes_of, first_child_of, next_of, parent_of}
 pub use Rattle.hserialize.specs.Calls.{Writes, counted_by, counted_by_result, counted_unless}
 pub use Rattle.hserialize.specs.ContentTable.{takes_comments, takes_role, texts_in}
-pub use Rattle.hserialize.specs.DocumentTesting.{is_head_at, is_last_at, is_leaf_at, is_metadata_at, is_metadata_what, is_named_what, is_plain_doctype_at, is_text_alone, trees_from, ArePassed, IsDoctypePassed}
+pub use Rattle.hserialize.specs.DocumentTesting.{is_leaf_at, is_metadata_at, is_metadata_what, is_named_what, is_plain_doctype_at, is_text_alone, trees_from, ArePassed, IsDoctypePassed, IsHeadAt, IsLastAt}
 pub use Rattle.hserialize.specs.Entries.{AreEntriesNumbered, pair_of}
 pub use Rattle.hserialize.specs.ErrorLines.{IsLine}
 pub use Rattle.hserialize.specs.Escaping.{escaped, written_char}

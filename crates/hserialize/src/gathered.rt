@@ -1,7 +1,7 @@
 //! A text in memory, as a target.
 
-ghost use Rattle.std.specs.Prelude.{◌≡◌, ℕ, List, [], Ok, Some};
-ghost use Rattle.hserialize.specs.Vocabulary.{HoldsBytes, gathered_failures, gathered, WritesText};
+ghost use Rattle.std.specs.Prelude.{◌≡◌, [], Some};
+ghost use Rattle.hserialize.specs.Gathered.{gathered, gathered_failures, text_if};
 
 use crate::target::Target;
 use names::Refusal;
@@ -27,8 +27,7 @@ impl Gathered {
 
     /// The text, if all of it was written: what fails is memory alone.
     pub fn into_text(self, answer: Result<(), Refusal>) -> Result<Vec<u8>, Refusal>
-        ensures { (text : List ℕ) (old : Gathered) → gathered old ≡ Some []
-            → WritesText gathered gathered_failures text old self answer → HoldsBytes result text }
+        ensures { result ≡ text_if self answer }
     {
         match answer {
             Ok(()) => Ok(self.text),

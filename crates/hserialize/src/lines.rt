@@ -6,7 +6,7 @@ ghost use Rattle.hserialize.specs.Vocabulary.{text_of, children_of, what_of, map
 
 use crate::error_line::{ErrorLine, put_error};
 use crate::sorted::{NamedAttr, in_order};
-use crate::writer::{Answer, Writer, put, put_parts, room};
+use crate::writer::{Answer, ROOM, Writer, put, put_parts};
 use crate::{Gathered, NodeView, Reach, Target, TreeWalk, Visit};
 use hnodes::{DocumentType, NodeId, Tree};
 use names::{Names, ParseError, Refusal};
@@ -146,13 +146,14 @@ pub fn print_tree<W: Target>(
     ensures flushed { OnOk result (IsFlushed W.flushes target.new) }
 {
     let mut entries = Vec::with_capacity(alloc, most_attributes(tree))?;
-    let mut held = room(alloc)?;
+    let mut held = Vec::with_capacity(alloc, ROOM)?;
     let mut out = Writer::new(target, &mut held);
     put_nodes(&mut out, &mut entries, tree, names, root)?;
     out.finish()
 }
 
 /// The text that [`print_tree`] writes. An error is `Memory`.
+#[tactic(auto, using(crate::proofs::Held::held))]
 pub fn tree_text(
     alloc: Global,
     tree: &Tree,
@@ -191,13 +192,14 @@ pub fn print_errors<W: Target>(
     ensures text { WritesText W.written W.failed (error_lines errors.now) target.old target.new result }
     ensures flushed { OnOk result (IsFlushed W.flushes target.new) }
 {
-    let mut held = room(alloc)?;
+    let mut held = Vec::with_capacity(alloc, ROOM)?;
     let mut out = Writer::new(target, &mut held);
     put_errors(&mut out, errors)?;
     out.finish()
 }
 
 /// The text that [`print_errors`] writes. An error is `Memory`.
+#[tactic(auto, using(crate::proofs::Held::held))]
 pub fn error_lines(alloc: Global, errors: &[ParseError]) -> Result<Vec<u8>, Refusal>
     ensures { HoldsBytes result (error_lines errors.now) }
 {

@@ -1,7 +1,7 @@
 //! Whether a document is plain.
 
 ghost use Rattle.std.specs.Prelude.{◌≡◌, ◌<◌, IfSome, Some};
-ghost use Rattle.hserialize.specs.Vocabulary.{are_in_html, children_of, is_head_at, is_last_at, is_leaf_at, is_metadata_at, is_named_what, is_plain_doctype_at, is_plain_document, is_text_alone, mapped, text_of, what_of, ArePassed, IsDoctypePassed};
+ghost use Rattle.hserialize.specs.Vocabulary.{are_in_html, children_of, is_leaf_at, is_metadata_at, is_named_what, is_plain_doctype_at, is_plain_document, is_text_alone, mapped, text_of, what_of, ArePassed, IsDoctypePassed, IsHeadAt, IsLastAt};
 
 use crate::NodeView;
 use crate::content::Texts;
@@ -90,7 +90,7 @@ fn is_named(tree: &Tree, names: &PlainNames, node: NodeId, expected: &str) -> bo
 /// Whether a node is such an element, and comments alone follow it.
 fn is_last(tree: &Tree, names: &PlainNames, node: NodeId, expected: &str) -> bool
     requires { node < tree.now.made }
-    ensures { result ≡ is_last_at (text_of names.now.table.now) expected.now node tree.now.trees }
+    ensures { IsLastAt (text_of names.now.table.now) expected.now node tree.now.trees result }
 {
     prove!(tree.are_nodes());
     let after = past_leaves(tree, Texts::None, tree.next(node));
@@ -132,12 +132,13 @@ fn is_metadata_node(tree: &Tree, names: &PlainNames, node: NodeId) -> bool
 /// Whether a node is the head of a plain document.
 fn is_head(tree: &Tree, names: &PlainNames, head: NodeId) -> bool
     requires { head < tree.now.made }
-    ensures { result ≡ is_head_at (text_of names.now.table.now) head tree.now.trees }
+    ensures { IsHeadAt (text_of names.now.table.now) head tree.now.trees result }
 {
+    prove!(tree.are_nodes());
+    prove!(names.table.are_names());
     if !is_named(tree, names, head, "head") {
         return false;
     }
-    prove!(names.table.are_names());
     for node in tree.children(head) {
         if !is_metadata_node(tree, names, node) {
             return false;
@@ -155,12 +156,12 @@ fn is_html(tree: &Tree, names: &PlainNames, html: NodeId) -> bool
     let Some(head) = past_leaves(tree, Texts::None, tree.first_child(html)) else {
         return false;
     };
-    let Some(body) = past_leaves(tree, Texts::WhiteSpace, tree.next(head)) else {
-        return false;
-    };
     if !is_head(tree, names, head) {
         return false;
     }
+    let Some(body) = past_leaves(tree, Texts::WhiteSpace, tree.next(head)) else {
+        return false;
+    };
     is_last(tree, names, body, "body") && is_plain_list(tree, names, body, "body")
 }
 

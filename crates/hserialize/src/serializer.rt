@@ -10,7 +10,7 @@ use crate::gathered::Gathered;
 use crate::node_view::NodeView;
 use crate::target::Target;
 use crate::walk::{Reach, TreeWalk, Visit, goes_in};
-use crate::writer::{Answer, Writer, put, put_before, put_parts, room};
+use crate::writer::{Answer, ROOM, Writer, put, put_before, put_parts};
 use hnodes::{Attrs, NodeId, Tree};
 use names::{NameId, Names, RawKind, Refusal, Tag};
 use std::alloc::Global;
@@ -157,7 +157,7 @@ impl<'a> Listing<'a> {
         ensures text { WritesText W.written W.failed (listed self.now) target.old target.new result }
         ensures flushed { OnOk result (IsFlushed W.flushes target.new) }
     {
-        let mut held = room(alloc)?;
+        let mut held = Vec::with_capacity(alloc, ROOM)?;
         let mut out = Writer::new(target, &mut held);
         self.put_list(&mut out)?;
         out.finish()
@@ -194,6 +194,7 @@ pub fn serialize<W: Target>(
 }
 
 /// The text that [`serialize`] writes. An error is `Memory`.
+#[tactic(auto, using(crate::proofs::Held::held))]
 pub fn serialize_to_vec(
     alloc: Global,
     tree: &Tree,
@@ -238,6 +239,7 @@ pub fn serialize_in<W: Target>(
 }
 
 /// The text that [`serialize_in`] writes. An error is `Memory`.
+#[tactic(auto, using(crate::proofs::Held::held))]
 pub fn serialize_in_to_vec(
     alloc: Global,
     tree: &Tree,
@@ -276,13 +278,14 @@ pub fn serialize_outer<W: Target>(
         root: node,
         raw: holds_raw(tree, node),
     };
-    let mut held = room(alloc)?;
+    let mut held = Vec::with_capacity(alloc, ROOM)?;
     let mut out = Writer::new(target, &mut held);
     list.put_outer(&mut out)?;
     out.finish()
 }
 
 /// The text that [`serialize_outer`] writes. An error is `Memory`.
+#[tactic(auto, using(crate::proofs::Held::held))]
 pub fn serialize_outer_to_vec(
     alloc: Global,
     tree: &Tree,

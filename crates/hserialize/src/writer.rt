@@ -1,17 +1,16 @@
 //! Bytes to a target by way of a buffer, part by part.
 
-ghost use Rattle.std.specs.Prelude.{◌≡◌, ◌+◌, ◌++◌, ◌≤◌, [], IfOk, OnOk, flat_map, length, vec_capacity};
-ghost use Rattle.hserialize.specs.Output.{AddsBytes, EndsOutput, IsFlushed, PutsTo, written_so_far};
+ghost use Rattle.std.specs.Prelude.{◌≡◌, ◌+◌, ◌++◌, ◌≤◌, [], OnOk, flat_map, length, vec_capacity};
+ghost use Rattle.hserialize.specs.Output.{AddsBytes, EndsOutput, IsBegun, IsFlushed, PutsTo, written_so_far};
 
 use crate::target::{Target, write_all};
 use names::Refusal;
-use std::alloc::{AllocError, Global};
 
 /// What a function that writes by way of a buffer returns.
 pub(crate) type Answer = Result<(), Refusal>;
 
 /// How many bytes are held.
-const ROOM: usize = 65536;
+pub(crate) const ROOM: usize = 65536;
 
 /// A target, and bytes that it is yet to be handed. Their memory is taken once: no write takes any.
 #[derive(Drop)]
@@ -20,19 +19,11 @@ pub(crate) struct Writer<'t, W> {
     held: &'t mut Vec<u8>,
 }
 
-/// The memory of what is held.
-pub(crate) fn room(alloc: Global) -> Result<Vec<u8>, AllocError>
-    ensures { IfOk result (λ room. room.items ≡ []) }
-{
-    Vec::with_capacity(alloc, ROOM)
-}
-
 impl<'t, W: Target> Writer<'t, W> {
     /// Nothing is held yet.
     pub(crate) fn new(target: &'t mut W, held: &'t mut Vec<u8>) -> Writer<'t, W>
-        ensures name { result.target.ghost_name ≡ target.entry.ghost_name }
-        ensures same { result.target.now ≡ target.old }
-        ensures held { result.held.now ≡ held.old }
+        requires { held.old.items ≡ [] }
+        ensures { IsBegun target.entry.ghost_name target.old result }
     {
         Writer { target, held }
     }

@@ -1,4 +1,0 @@
-use Rattle.hserialize.proofs.serializer.serialize_outer_to_vec.Goals as goal
-
-pub returns : goal.returns
-returns c = c.into_text.ensures _ _ c.new-text.ensures c.serialize_outer-answer.ensures.text
