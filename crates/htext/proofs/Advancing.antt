@@ -1,5 +1,5 @@
 -- How a front of bytes is read, and the bytes after it.
-use Rattle.htext.proofs.Names.{◌≡◌, ℕ, zero, suc, ◌<◌, ◌≤◌, ◌+◌, ◌-◌, Bool, true, false, List, [], ◌∷◌, ◌++◌, length, map, take, drop, sym, refl, ap, ◌∙◌, subst, arith, append_assoc, append-nil, None, Some, Result, Ok, Err, drop_at, take_at, take-take, take-append-le, length-append, length-take-le, take-append-drop, length-drop, drop-drop, take_all, IsUtf8-nil, chars, IsUtf8, utf8_valid_len, utf8_error_len, utf8_invalid_len, placed, Hands, Refusal, Bom, BadBytes, Refuse, Replace, NextBad, Waits, Refused, next_front, AreBad, Policy, Read, Whole, Bad, reads, normalized, ends_in_return, text_of, valid_len, front_len, decoded, settled, refusal_of, reads_at, CharItem, items, bad_each, DecoderHasRead, IsReading, DecodingIsRefusedFrom, IsUndecided, HandsOn, Feeds, sink_refused, took_all}
+use Rattle.htext.proofs.Names.{◌≡◌, ℕ, zero, suc, ◌<◌, ◌≤◌, ◌+◌, ◌-◌, Bool, true, false, List, [], ◌∷◌, ◌++◌, length, map, take, drop, sym, refl, ap, ◌∙◌, subst, arith, append_assoc, append-nil, None, Some, Result, Ok, Err, drop_at, take_at, take-take, take-append-le, length-append, length-take-le, take-append-drop, length-drop, drop-drop, take_all, IsUtf8-nil, chars, IsUtf8, utf8_valid_len, utf8_error_len, utf8_invalid_len, placed, Hands, Refusal, Bom, BadBytes, Refuse, Replace, NextBad, Waits, Refused, next_front, IsAhead, inl, inr, AreBad, Policy, Read, Whole, Bad, reads, normalized, ends_in_return, text_of, valid_len, front_len, decoded, settled, refusal_of, reads_at, CharItem, items, bad_each, DecoderHasRead, IsReading, DecodingIsRefusedFrom, IsUndecided, HandsOn, Feeds, sink_refused, took_all}
 use Rattle.std.proofs.lemmas.List.{drop-append-le}
 use Rattle.htext.specs.Next.{AreReplaced}
 use Rattle.htext.specs.Decoding.{Stops, by_sink, by_bytes}
@@ -354,11 +354,14 @@ module _ {S : Type 0} (gives : S → CharItem → Result (Unit {0}) Refusal → 
     abbrev IsBadAfter : ℕ → List Read → Type 0
     IsBadAfter n parts = IsReading (policy bom bad limit) (read + length text + n) false all × (text_of bom (take (read + length text + n) all) ≡ text_of bom (take (read + length text) all) ++ parts)
 
-    pub replaced_after : (n : ℕ) → next_front bad (drop (read + length text) all) (limit - (read + length text)) (read + length text) ≡ NextBad n → IsBadAfter n (Bad (read + length text) ∷ [])
-    replaced_after n e = let w = what_is_bad bad _ _ _ n e in (bad_reading bom bad limit _ _ all now_reading n w, bad_text bom bad limit _ _ all now_reading n w)
-
-    pub each_after : (n : ℕ) → AreReplaced bad (drop (read + length text) all) (limit - (read + length text)) n → 0 < n → IsBadAfter n (bad_each (read + length text) n)
-    each_after n are some = after_each bom bad limit all n _ _ now_reading are some
+    pub bad_after : (parts n : ℕ) → IsAhead bad (drop (read + length text) all) (limit - (read + length text)) (read + length text) (NextBad parts n) → IsBadAfter n (bad_each (read + length text) parts)
+    bad_after parts n (inl e) =
+        let (one, w) = what_is_bad bad _ _ _ parts n (sym e) in
+        subst (λ (k : ℕ). IsBadAfter n (bad_each (read + length text) k)) (sym one) (bad_reading bom bad limit _ _ all now_reading n w, bad_text bom bad limit _ _ all now_reading n w)
+    bad_after parts n (inr (k, e, some, are)) =
+        let p : k ≡ parts = cc in
+        let q : k ≡ n = cc in
+        subst (λ (x : ℕ). IsBadAfter x (bad_each (read + length text) parts)) q (subst (λ (x : ℕ). IsBadAfter k (bad_each (read + length text) x)) p (after_each bom bad limit all k _ _ now_reading are some))
 
     module _ (n : ℕ) (parts : List Read) (is_after : IsBadAfter n parts) (last : S) where
       pub bad_handed : (answer : Result (Unit {0}) Refusal) → Hands gives new (items parts) answer last → HandsOn gives before (text_of bom (take (read + length text + n) all)) old answer last

@@ -37,8 +37,8 @@ module _ (bom : Bom) (bad : BadBytes) (limit read : ℕ) (after_return : Bool) (
 
   -- what is held waits
   waits_by : (next : Front) → next_front bad (drop read fed) (limit - read) read ≡ next → WhatWaits bad (drop read fed) (limit - read)
-  waits_by (NextBad n) e =
-      let w = what_is_bad bad _ _ _ n e in
+  waits_by (NextBad parts n) e =
+      let w = (what_is_bad bad _ _ _ parts n e).1 in
       let more = bad_reading bom bad limit read after_return fed reading n w in
       let front = front_past false bad limit (take (read + n) fed) (drop (read + n) fed) (front_here bom bad limit (read + n) false fed more) (within_here bom bad limit (read + n) false fed more) in
       absurd (omega (arith, error_bounds _ n w.is_bad, len_front bom bad limit (read + n) false fed more, ap (front_len false bad limit) (take-append-drop (read + n) fed), front, h.length_is))

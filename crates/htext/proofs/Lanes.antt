@@ -1,7 +1,8 @@
 -- Runs of bytes, seen a vector at a time through the mask of those that end them.
-use Rattle.htext.proofs.Names.{cases_eq, inl, inr, and_parts, nat_tests, ◌≡◌, ℕ, zero, suc, ◌+◌, ◌/◌, ◌%◌, ◌<◌, ◌≤◌, Bool, true, false, not, cond, eqb, ◌&&◌, List, [], ◌∷◌, map, length, drop, get_or, replicate, bit_and, refl, sym, ap, ◌∙◌, arith, zip2_splat, map-map, length-map, ◌++◌, length-append, and_le_r, prefix_len-le-length, prefix_len, zip2, count_trailing_zeros}
+use Rattle.htext.proofs.Names.{nat_tests, ◌≡◌, ℕ, ◌+◌, ◌/◌, ◌%◌, ◌<◌, ◌≤◌, Bool, true, not, cond, eqb, List, [], ◌∷◌, map, length, drop, get_or, replicate, bit_and, refl, sym, ap, ◌∙◌, arith, zip2_splat, map-map, length-map, ◌++◌, length-append, and_le_r, prefix_len-le-length, prefix_len, zip2, count_trailing_zeros}
 use Rattle.std.proofs.Common.{◌^◌, ap₂, w8, Fits}
 use Rattle.std.proofs.lemmas.Simd.{chunk-drop, length-chunk, mask_l-mod, leading_from_mask_l, trailing_mask_l, swz_l, SwzOk, SwzOk-from_below, length-swz_l, get_or-swz_l_below, length-zip2, Each1-all, Each1-weaker, Each1-zip2, Each1-get_or, Each2-splat, below_from_Fits}
+use Rattle.std.proofs.lemmas.Bool.{agree_below, agree_below_at}
 use Rattle.std.proofs.lemmas.List.{get_or-map, ext_get_or}
 use Rattle.std.proofs.lemmas.List.Folds.{prefix_len-append}
 use Rattle.std.proofs.Math.Bool.{not-not}
@@ -52,34 +53,13 @@ looked_up table g v {places} are e small =
 
 -- A TEST OF EACH BYTE
 
-abbrev pub upto : (ℕ → Bool) → ℕ → Bool
-upto p zero = true
-upto p (suc n) = p n && upto p n
-
-abbrev pub same : Bool → Bool → Bool
-same true b = b
-same false b = not b
-
-same_is : (a b : Bool) → same a b ≡ true → a ≡ b
-same_is a b h = grind arith
-
-upto_sound : (p : ℕ → Bool) (n : ℕ) → upto p n ≡ true → (i : ℕ) → i < n → p i ≡ true
-upto_sound p zero h i lt = absurd (omega (arith, lt))
-upto_sound p (suc n) h i lt = elim (cases_eq i n) [
-  | inl here ↦ ap p here ∙ (and_parts (p n) (upto p n) h).0
-  | inr below ↦ upto_sound p n (and_parts (p n) (upto p n) h).1 i (omega arith)
-]
-
--- two tests agree at each of the 256 bytes, which computing shows, and so they do lane by lane
-pub agree : (p q : ℕ → Bool) → upto (λ x. same (p x) (q x)) 256 ≡ true → (x : ℕ) → x < 256 → p x ≡ q x
-agree p q all x small = same_is (p x) (q x) (upto_sound (λ y. same (p y) (q y)) 256 all x small)
-
 each_byte : (p q : ℕ → Bool) → ((x : ℕ) → x < 256 → p x ≡ q x) → (v : List ℕ) → Each1 (Fits w8) v → map p v ≡ map q v
 each_byte p q agree [] fits = refl
 each_byte p q agree (x ∷ xs) fits = ap₂ (λ a b. a ∷ b) (agree x fits.0.fits) (each_byte p q agree xs fits.1)
 
-pub same_mask : (p q : ℕ → Bool) → upto (λ x. same (p x) (q x)) 256 ≡ true → (v : List ℕ) → Each1 (Fits w8) v → mask_l (map p v) ≡ mask_l (map q v)
-same_mask p q all v fits = ap mask_l (each_byte p q (agree p q all) v fits)
+-- two tests agree at each of the 256 bytes, which computing shows, and so they do lane by lane
+pub same_mask : (p q : ℕ → Bool) → agree_below p q 256 ≡ true → (v : List ℕ) → Each1 (Fits w8) v → mask_l (map p v) ≡ mask_l (map q v)
+same_mask p q all v fits = ap mask_l (each_byte p q (λ x small. agree_below_at p q 256 x all small) v fits)
 
 -- a mask that is computed lane by lane is that of a test, where the two agree
 pub masked : (f : ℕ → ℕ) (p : ℕ → Bool) (v z : List ℕ) → length v ≤ 64 → Each1 (Fits w8) v → z ≡ map f v → ((x : ℕ) → x < 256 → top 7 (f x) ≡ p x)

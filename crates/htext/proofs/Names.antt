@@ -1,7 +1,7 @@
 -- The names of other crates and of specs/ that several proofs cite, in one place.
 pub use Rattle.htext.specs.Decoding.{DecoderHasRead, IsReading, DecodingIsRefusedFrom, IsUndecided, HandsOn, Feeds, sink_refused, took_all, HasFed}
 pub use Rattle.htext.specs.Items.{CharItem, items, bad_each, Character, InputError, read_items}
-pub use Rattle.htext.specs.Next.{next_front, AreBad, IsBadAlone}
+pub use Rattle.htext.specs.Next.{next_front, AreBad, IsAhead, IsBadAlone}
 pub use Rattle.htext.specs.Run.{is_plain_byte, is_plain_character, is_clean, is_of_clean_bytes, is_clean_byte, is_text_byte, IsCut, IsCleanFront, run_items, is_not_of, is_run_byte, shares_no_bit}
 pub use Rattle.htext.specs.Text.{Policy, Read, Whole, Bad, reads, normalized, ends_in_return, text as text_of, valid_len, front_len, decoded, settled, refusal_of, reads_at, BeginsNoCharacter, or_rest, bad_len, BeginsCharacter, refusal_with, DecodingStaysRefused, fitting, after_part, read_as, character_of, PlacesRise, text, read_len}
 unfoldable pub use Rattle.htext.specs.Text.{fitting_within, reads_within}

@@ -1,5 +1,5 @@
 -- Runs of plain bytes, each a character.
-use Rattle.htext.proofs.Names.{zero, ◌≡◌, ℕ, ◌<◌, ◌+◌, ◌-◌, suc, Bool, true, false, cond, List, [], ◌∷◌, ◌++◌, length, take, drop, sym, refl, ap, ◌∙◌, arith, encode_utf8_all, list_all, prefix_len, take-add, take-append-drop, list_all-append, and_parts, and_from, chars, IsUtf8, len_utf8, placed, is_plain_byte}
+use Rattle.htext.proofs.Names.{zero, ◌≡◌, ℕ, ◌<◌, ◌+◌, ◌-◌, suc, Bool, true, false, cond, List, [], ◌∷◌, ◌++◌, length, take, drop, sym, refl, ap, ◌∙◌, arith, encode_utf8_all, list_all, prefix_len, take-append-drop, list_all-append, and_parts, and_from, chars, IsUtf8, len_utf8, placed, is_plain_byte}
 use Rattle.std.specs.List.{slice_range}
 use Rattle.std.proofs.lemmas.Str.{chars-IsAscii, encodes-IsAscii}
 use Rattle.std.specs.Str.{IsAscii}

@@ -1,5 +1,5 @@
 -- What is left of bytes after a front, and doesn't fit or isn't settled.
-use Rattle.htext.proofs.Names.{◌≡◌, ℕ, suc, ◌<◌, ◌≤◌, ◌+◌, ◌-◌, Bool, true, false, List, [], ◌++◌, length, take, drop, sym, refl, ap, ◌∙◌, arith, append_assoc, append-nil, Option, None, Some, nat_tests, length-append, take_at, utf8_valid_len, utf8_error_len, Refusal, TooLarge, Bom, BadBytes, Refuse, Replace, Waits, Refused, next_front, valid_len, bad_len, after_part, fitting_within, front_len, refusal_of, DecodingStaysRefused, text_of, DecodingIsRefusedFrom, IsUndecided}
+use Rattle.htext.proofs.Names.{◌≡◌, ℕ, suc, ◌<◌, ◌≤◌, ◌+◌, ◌-◌, Bool, true, false, List, [], ◌++◌, length, take, drop, sym, refl, ap, ◌∙◌, arith, append_assoc, append-nil, Option, None, Some, nat_tests, length-append, take_at, utf8_valid_len, utf8_error_len, Refusal, TooLarge, Bom, BadBytes, Refuse, Replace, Waits, Refused, next_front, IsAhead, inl, inr, valid_len, bad_len, after_part, fitting_within, front_len, refusal_of, DecodingStaysRefused, text_of, DecodingIsRefusedFrom, IsUndecided}
 use Rattle.htext.specs.declared.progress.Front.TheVariants.{Bad}
 use Rattle.htext.proofs.Valid.{going_on}
 use Rattle.htext.proofs.Errors.{error_bounds, error_more, error_open}
@@ -72,9 +72,28 @@ pub record WhatIsBad (bad : BadBytes) (rest : List ℕ) (room n : ℕ) : Type 0 
 pub what_waits : (bad : BadBytes) (rest : List ℕ) (room at : ℕ) → next_front bad rest room at ≡ Waits → WhatWaits bad rest room
 what_waits bad rest room at e = record { none = grind (arith, nat_tests); is_open = grind (arith, nat_tests); fits = grind (arith, nat_tests) }
 
-pub what_is_bad : (bad : BadBytes) (rest : List ℕ) (room at n : ℕ) → next_front bad rest room at ≡ Bad n → WhatIsBad bad rest room n
-what_is_bad bad rest room at n e =
-    record { how = grind (arith, nat_tests); none = grind (arith, nat_tests); is_bad = grind (arith, nat_tests); fits = grind (arith, nat_tests) }
+pub what_is_bad : (bad : BadBytes) (rest : List ℕ) (room at parts n : ℕ) → next_front bad rest room at ≡ Bad parts n → (parts ≡ 1) × WhatIsBad bad rest room n
+what_is_bad bad rest room at parts n e =
+    (grind (arith, nat_tests), record { how = grind (arith, nat_tests); none = grind (arith, nat_tests); is_bad = grind (arith, nat_tests); fits = grind (arith, nat_tests) })
+
+-- what is ahead is what is next, but where bytes are bad parts by themselves
+pub ahead_refused : (bad : BadBytes) (rest : List ℕ) (room at : ℕ) (r : Refusal) → IsAhead bad rest room at (Refused r) → next_front bad rest room at ≡ Refused r
+ahead_refused bad rest room at r (inl e) = sym e
+ahead_refused bad rest room at r (inr (n, e, some, are)) = absurd cc
+
+pub ahead_waits : (bad : BadBytes) (rest : List ℕ) (room at : ℕ) → IsAhead bad rest room at Waits → next_front bad rest room at ≡ Waits
+ahead_waits bad rest room at (inl e) = sym e
+ahead_waits bad rest room at (inr (n, e, some, are)) = absurd cc
+
+pub ahead_bounds : (bad : BadBytes) (rest : List ℕ) (room at parts len : ℕ) → IsAhead bad rest room at (Bad parts len) → (parts ≤ len) × (0 < len) × (len ≤ room) × (len ≤ length rest)
+ahead_bounds bad rest room at parts len (inl e) =
+    let (one, w) = what_is_bad bad rest room at parts len (sym e) in
+    let bounds = error_bounds rest len w.is_bad in
+    (omega (arith, one, bounds.0), omega (arith, bounds.0), w.fits, bounds.1)
+ahead_bounds bad rest room at parts len (inr (n, e, some, are)) =
+    let p : parts ≡ n = cc in
+    let q : len ≡ n = cc in
+    (omega (arith, p, q), omega (arith, q, some), omega (arith, q, are.fits), omega (arith, q, are.within))
 
 -- nothing is read of what waits
 pub waits_unread : (bad : BadBytes) (rest : List ℕ) (room : ℕ) → valid_len room rest ≡ 0 → WhatWaits bad rest room → front_len false bad room rest ≡ 0

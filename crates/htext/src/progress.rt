@@ -6,11 +6,11 @@ ghost use Rattle.std.specs.Char.{encode_utf8};
 ghost use Rattle.std.specs.Str.{chars};
 ghost use Rattle.std.specs.Str.Lossy.{utf8_valid_len};
 ghost use Rattle.htext.specs.Vocabulary.{placed, Hands, NotUtf8, MAX_INPUT, Refuse, Replace, Policy, Whole, Bad, normalized, ends_in_return, text, settled, items};
-ghost use Rattle.htext.specs.Vocabulary.{bad_each, IsCleanFront, DecoderHasRead, HandsOn, IsReading, IsUndecided, Stops, next_front, AreReplaced, IsBadAlone};
+ghost use Rattle.htext.specs.Vocabulary.{bad_each, IsCleanFront, DecoderHasRead, HandsOn, IsReading, IsUndecided, Stops, next_front, IsAhead};
 
 use crate::character::{hand_char, is_clean};
 use crate::decoder::MAX_INPUT;
-use crate::run::{bad_run, clean_bytes};
+use crate::run::{RunBytes, bad_run, run};
 use crate::sink::CharSink;
 use crate::{BadBytes, Bom};
 use names::Refusal;
@@ -32,8 +32,8 @@ pub(crate) struct Progress {
 
 /// What is at the front of bytes that begin with no character within the limit.
 pub(crate) enum Front {
-    /// A bad part of this length, to be replaced.
-    Bad(usize),
+    /// So many bad parts, to be replaced, and how many bytes they have.
+    Bad(usize, usize),
     /// Nothing yet: what it is depends on the bytes that follow.
     Waits,
     /// What is refused, whatever follows.
@@ -63,19 +63,14 @@ impl Progress {
             let text = valid_text(self.fitting(&bytes[count..]), count > 0);
             self.hand_text(text, sink)?;
             count += text.len();
-            let alone = self.bad_alone(&bytes[count..]);
-            if alone > 0 {
-                self.hand_bad(alone, alone, sink)?;
-                count += alone;
-                continue;
-            }
-            let len = match self.next(&bytes[count..]) {
-                Front::Bad(len) => len,
+            match self.ahead(&bytes[count..]) {
+                Front::Bad(parts, len) => {
+                    self.hand_bad(parts, len, sink)?;
+                    count += len;
+                }
                 Front::Waits => return Ok(count),
                 Front::Refused(refusal) => return Err(refusal),
-            };
-            self.hand_bad(1, len, sink)?;
-            count += len;
+            }
         }
     }
 
@@ -104,15 +99,18 @@ impl Progress {
         &bytes[..room]
     }
 
-    /// How many bytes at the front are within the limit and each a bad part by itself; none where bad bytes are refused.
-    fn bad_alone(&self, rest: &[u8]) -> usize
-        ensures replaced { AreReplaced self.now.bad_bytes rest.now (self.now.limit - self.now.read) result }
-        ensures all { self.now.bad_bytes ≡ Replace → result < self.now.limit - self.now.read → IsBadAlone (drop result rest.now) → ⊥ }
+    /// What is at the front of bytes that begin with no character within the limit: all that are each a bad part by itself, or what is next.
+    fn ahead(&self, rest: &[u8]) -> Front
+        ensures { IsAhead self.now.bad_bytes rest.now (self.now.limit - self.now.read) self.now.read result }
     {
-        match self.bad_bytes {
+        let alone = match self.bad_bytes {
             BadBytes::Refuse => 0,
             BadBytes::Replace => bad_run(rest, self.fitting(rest).len()),
+        };
+        if alone > 0 {
+            return Front::Bad(alone, alone);
         }
+        self.next(rest)
     }
 
     /// What is at the front of bytes that begin with no character within the limit.
@@ -133,7 +131,7 @@ impl Progress {
             (BadBytes::Replace, _) if bad_len.unwrap_or(rest.len()) > room => Front::Refused(
                 Refusal::TooLarge { at },
             ),
-            (BadBytes::Replace, Some(part)) => Front::Bad(part),
+            (BadBytes::Replace, Some(part)) => Front::Bad(1, part),
             (BadBytes::Replace, None) => Front::Waits,
         }
     }
@@ -175,12 +173,15 @@ impl Progress {
         let mut place = self.read;
         let mut after_return = self.after_return;
         while let Some((ch, after)) = split_first(rest) {
-            let run = run_at(rest, after_return);
-            if run > 0 {
-                sink.take_run(&rest[..run], place)?;
-                place += run as u64;
-                rest = &rest[run..];
-                continue;
+            // (after a CR an LF is left out, so no run begins there)
+            if !after_return {
+                let run = clean_run(rest);
+                if run > 0 {
+                    sink.take_run(&rest[..run], place)?;
+                    place += run as u64;
+                    rest = &rest[run..];
+                    continue;
+                }
             }
             hand_char(self.bom, after_return, ch, place, sink)?;
             after_return = ch == '\r';
@@ -204,15 +205,6 @@ fn split_first(text: &str) -> Option<(char, &str)>
     Some((first, chars.as_str()))
 }
 
-/// How many bytes the run of clean characters at the front of a text has. It is 0 after a CR, since an LF is left out there.
-#[inline(always)]
-fn run_at(text: &str, after_return: bool) -> usize
-    ensures front { IsCleanFront result text.now }
-    ensures after_return { 0 < result → after_return ≡ false }
-{
-    if after_return { 0 } else { clean_run(text) }
-}
-
 /// How many bytes the run of clean characters at the front of a text has.
 #[inline(always)]
 fn clean_run(text: &str) -> usize
@@ -220,7 +212,7 @@ fn clean_run(text: &str) -> usize
 {
     let mut rest = text;
     loop {
-        let count = clean_bytes(rest.as_bytes());
+        let count = run(RunBytes::Clean, rest.as_bytes());
         rest = &rest[count..];
         match split_first(rest) {
             Some((ch, after)) if is_clean(ch) => rest = after,

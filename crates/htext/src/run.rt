@@ -5,7 +5,7 @@ ghost use Rattle.std.specs.Int.{is_in_range};
 ghost use Rattle.std.specs.List.{prefix_len};
 ghost use Rattle.std.specs.Simd.Lanes.{mask_l};
 ghost use Rattle.std.specs.Str.Lossy.{second_byte_min, second_byte_max};
-ghost use Rattle.htext.specs.Vocabulary.{is_alphanumeric, AreBad, IsBadAlone, is_clean_byte, is_run_byte, is_not_of, is_quoted_byte, is_text_byte, is_word_byte, is_unquoted_byte, shares_no_bit};
+ghost use Rattle.htext.specs.Vocabulary.{is_alphanumeric, AreBad, IsBadAlone, is_run_byte, is_not_of, is_quoted_byte, is_text_byte, is_word_byte, is_unquoted_byte, shares_no_bit};
 
 use std::simd::prelude::*;
 
@@ -14,7 +14,7 @@ use std::simd::prelude::*;
 pub(crate) enum RunBytes {
     /// All but `<` and `&`.
     Text,
-    /// Those of which most clean characters are (`clean_bytes` says which).
+    /// Those of tab, LF, FF, 20 to 7E, and U+00C0 to U+EFFF in UTF-8: most clean characters are of these.
     Clean,
     /// ASCII letters and digits.
     Alphanumeric,
@@ -34,7 +34,7 @@ struct Halves {
     high: [u8; 16],
 }
 
-/// The bytes of most clean characters (`clean_bytes` says which). 1 stands for the high half 0, 2 for 2 to 6, 4 for 7, 8 for 8 to B and D, 16 for C,
+/// The bytes of most clean characters (`RunBytes::Clean`). 1 stands for the high half 0, 2 for 2 to 6, 4 for 7, 8 for 8 to B and D, 16 for C,
 /// and 32 for E.
 const CLEAN: Halves = Halves {
     low: [
@@ -69,14 +69,6 @@ pub fn text_run(bytes: &[u8]) -> usize
     ensures { result ≡ prefix_len is_text_byte bytes.now }
 {
     run(RunBytes::Text, bytes)
-}
-
-/// Counts the bytes before the first one that is not of tab, LF, FF, 20 to 7E, or U+00C0 to U+EFFF in UTF-8.
-#[inline(always)]
-pub(crate) fn clean_bytes(bytes: &[u8]) -> usize
-    ensures { result ≡ prefix_len is_clean_byte bytes.now }
-{
-    run(RunBytes::Clean, bytes)
 }
 
 /// Counts the ASCII letters and digits before the first other byte.
@@ -158,7 +150,7 @@ fn may_follow(first: u8, second: u8) -> bool
 
 /// Counts the bytes at the front that may be in a run, a vector at a time.
 #[inline(always)]
-fn run(kind: RunBytes, bytes: &[u8]) -> usize
+pub(crate) fn run(kind: RunBytes, bytes: &[u8]) -> usize
     ensures counted { result ≡ prefix_len (is_run_byte kind) bytes.now }
     ensures few { result ≤ length bytes.now }
 {

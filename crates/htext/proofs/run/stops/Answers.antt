@@ -1,21 +1,11 @@
 use Rattle.htext.proofs.Names.{refl, ◌≡◌, ◌∙◌, ℕ, Bool, true, false, not, eqb, List, bit_or, cond, length, map, replicate, arith, zip2_splat, zip2_of_maps, zip2, is_not_of, shares_no_bit}
-use Rattle.std.proofs.Common.{leb}
+use Rattle.std.proofs.Common.{◌%◌, ◌^◌, Fits, w8}
 use Rattle.std.specs.Prelude.{◌||◌}
-use lib.Lanes.{top}
-use Rattle.htext.specs.declared.run.RunBytes.TheVariants.{Text, Clean, Alphanumeric, Word, Unquoted, Quoted}
+use lib.Lanes.{Each1, mask_l, top}
+use Rattle.htext.specs.declared.run.RunBytes.TheVariants.{Clean, Alphanumeric, Word, Unquoted, Quoted}
 use Rattle.htext.specs.declared.run.TheConstants.{CLEAN, ALPHANUMERIC, WORD, UNQUOTED}
-use Rattle.htext.proofs.Lanes.{agree, hit, masked, same_mask}
+use Rattle.htext.proofs.Lanes.{hit, masked, same_mask}
 use Rattle.htext.proofs.run.stops.Goals as goal
-
-abbrev mark : ℕ → ℕ
-mark x = bit_or (hit x 60) (hit x 38)
-
-marks : (v : List ℕ) → length v ≡ 16 → zip2 bit_or (zip2 hit v (replicate 16 60)) (zip2 hit v (replicate 16 38)) ≡ map mark v
-marks v long = zip2_of_maps bit_or _ _ v (zip2_splat hit v 16 60 long) (zip2_splat hit v 16 38 long)
-
--- the comparison of two lanes
-abbrev at_most : ℕ → ℕ → ℕ
-at_most a b = cond (leb a b) 255 0
 
 -- one of two is met
 either : (b c : Bool) → top 7 (bit_or (cond b 255 0) (cond c 255 0)) ≡ not (not (b || c))
@@ -24,9 +14,16 @@ either true false = refl
 either false true = refl
 either false false = refl
 
+marks : (mark : ℕ) (v : List ℕ) → length v ≡ 16 → Each1 (Fits w8) v
+    → mask_l (map (top 7) (zip2 bit_or (zip2 hit v (replicate 16 mark)) (zip2 hit v (replicate 16 38)))) % 2 ^ 64 ≡ mask_l (map (is_not_of (Quoted mark)) v)
+marks mark v long fits =
+    masked (λ x. bit_or (hit x mark) (hit x 38)) (is_not_of (Quoted mark)) v _ (omega arith) fits (zip2_of_maps bit_or _ _ v (zip2_splat hit v 16 mark long) (zip2_splat hit v 16 38 long)) (λ x _. either (eqb x mark) (eqb x 38))
+
 pub returns-in-Text : goal.returns-in-Text
-returns-in-Text c =
-    rw c.in-Text.is (masked mark (is_not_of Text) c.args.bytes _ (omega arith) c.fits-bytes.1 (marks c.args.bytes c.fits-bytes.0) (agree _ _ refl))
+returns-in-Text c = rw c.in-Text.is (marks 60 c.args.bytes c.fits-bytes.0 c.fits-bytes.1)
+
+pub returns-in-Quoted : goal.returns-in-Quoted
+returns-in-Quoted c = rw c.in-Quoted.is (marks c.in-Quoted.mark c.args.bytes c.fits-bytes.0 c.fits-bytes.1)
 
 pub returns-in-Clean : goal.returns-in-Clean
 returns-in-Clean c =
@@ -44,11 +41,3 @@ returns-in-Word c =
 pub returns-in-Unquoted : goal.returns-in-Unquoted
 returns-in-Unquoted c =
     rw c.in-Unquoted.is (c.outside-in-Unquoted.ensures ∙ same_mask (shares_no_bit UNQUOTED) (is_not_of Unquoted) refl c.args.bytes c.fits-bytes.1)
-
-pub returns-in-Quoted : goal.returns-in-Quoted
-returns-in-Quoted c =
-    let v = c.args.bytes in
-    let long = c.fits-bytes.0 in
-    let quote = c.in-Quoted.mark in
-    let both = zip2_of_maps bit_or _ _ v (zip2_splat hit v 16 quote long) (zip2_splat hit v 16 38 long) in
-    rw c.in-Quoted.is (masked (λ x. bit_or (hit x quote) (hit x 38)) (is_not_of (Quoted quote)) v _ (omega arith) c.fits-bytes.1 both (λ x _. either (eqb x quote) (eqb x 38)))

@@ -8,32 +8,32 @@ use Rattle.htext.proofs.progress.Progress.hand_text.Goals as goal
 pub returns-in_err-take_run-clause-handed : goal.returns-in_err-take_run-clause-handed
 returns-in_err-take_run-clause-handed g c =
     let e = err_from_is_err_and c.from_residual.result c.from_residual.ensures.1 in
-    let here = rw (c.run_at-run.ensures.after_return c.if-run-gt0.true) at c.loop-ch.invariant.handed in
-    let taken = rw (c.range.ensures.value ∙ front_of c.run_at-run.result c.loop-ch.rest.now) at c.in_err-take_run.ensures in
-    rw (e.1, e.2) (run_refused g.S.CharSink.gives _ _ _ c.loop-ch.sink _ c.run_at-run.result c.loop-ch.rest.now here c.run_at-run.ensures.front _ c.in_err-take_run.field-0.0 taken)
+    let here = rw (c.if-not-after_return.true) at c.loop-ch.invariant.handed in
+    let taken = rw (c.range.ensures.value ∙ front_of c.clean_run-run.result c.loop-ch.rest.now) at c.in_err-take_run.ensures in
+    rw (e.1, e.2) (run_refused g.S.CharSink.gives _ _ _ c.loop-ch.sink _ c.clean_run-run.result c.loop-ch.rest.now here c.clean_run-run.ensures _ c.in_err-take_run.field-0.0 taken)
 
 pub range-requires-clause-end_boundary : goal.range-requires-clause-end_boundary
 range-requires-clause-end_boundary g c =
-    IsCharBoundary-from_drop c.loop-ch.rest.now c.run_at-run.result c.run_at-run.ensures.front.cut.within c.run_at-run.ensures.front.cut.back
+    IsCharBoundary-from_drop c.loop-ch.rest.now c.clean_run-run.result c.clean_run-run.ensures.cut.within c.clean_run-run.ensures.cut.back
 
 pub range_from-rest-requires : goal.range_from-rest-requires
 range_from-rest-requires g c = λ _.
-    IsCharBoundary-from_drop c.loop-ch.rest.now c.run_at-run.result c.run_at-run.ensures.front.cut.within c.run_at-run.ensures.front.cut.back
+    IsCharBoundary-from_drop c.loop-ch.rest.now c.clean_run-run.result c.clean_run-run.ensures.cut.within c.clean_run-run.ensures.cut.back
 
 pub loop-ch-preserved-then-run-gt0 : goal.loop-ch-preserved-then-run-gt0
 loop-ch-preserved-then-run-gt0 g c =
-    let free = c.run_at-run.ensures.after_return c.if-run-gt0.true in
+    let free = c.if-not-after_return.true in
     let here = rw free at c.loop-ch.invariant.handed in
     let ended = rw free at c.loop-ch.invariant.ends in
-    let taken = rw (c.range.ensures.value ∙ front_of c.run_at-run.result c.loop-ch.rest.now) at c.in_ok-take_run.ensures in
-    let n = c.run_at-run.result in
+    let taken = rw (c.range.ensures.value ∙ front_of c.clean_run-run.result c.loop-ch.rest.now) at c.in_ok-take_run.ensures in
+    let n = c.clean_run-run.result in
     let bytes = c.loop-ch.rest.now in
     let left = c.range_from-rest.ensures.value in
     record {
-      handed = rw (free, left) (run_more g.S.CharSink.gives _ _ _ c.loop-ch.sink _ n bytes here c.run_at-run.ensures.front _ taken);
-      reached = omega (arith, c.loop-ch.invariant.reached, ap length left, length-drop n bytes, c.run_at-run.ensures.front.cut.within);
-      utf8 = rw left c.run_at-run.ensures.front.cut.back;
-      ends = rw (free, left) (sym (ends_after n c.loop-ch.place bytes c.run_at-run.ensures.front) ∙ ended);
+      handed = rw (free, left) (run_more g.S.CharSink.gives _ _ _ c.loop-ch.sink _ n bytes here c.clean_run-run.ensures _ taken);
+      reached = omega (arith, c.loop-ch.invariant.reached, ap length left, length-drop n bytes, c.clean_run-run.ensures.cut.within);
+      utf8 = rw left c.clean_run-run.ensures.cut.back;
+      ends = rw (free, left) (sym (ends_after n c.loop-ch.place bytes c.clean_run-run.ensures) ∙ ended);
     }
 
 pub returns-in_err-hand_char-clause-handed : goal.returns-in_err-hand_char-clause-handed

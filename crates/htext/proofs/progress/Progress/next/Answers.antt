@@ -19,7 +19,7 @@ returns-in-Replace-None c = elim c.match-from_utf8.branch [
 ]
 
 -- what is at the front where it is a bad part that fits
-bad_next : (bad : BadBytes) (rest : List ℕ) (room at part : ℕ) → bad ≡ Replace → utf8_valid_len rest ≡ 0 → utf8_error_len rest ≡ Some part → part ≤ room → NextBad part ≡ next_front bad rest room at
+bad_next : (bad : BadBytes) (rest : List ℕ) (room at part : ℕ) → bad ≡ Replace → utf8_valid_len rest ≡ 0 → utf8_error_len rest ≡ Some part → part ≤ room → NextBad 1 part ≡ next_front bad rest room at
 bad_next bad rest room at part how none is_bad fits = grind (arith, nat_tests)
 
 pub returns-in-Replace-Some : goal.returns-in-Replace-Some
