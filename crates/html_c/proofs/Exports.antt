@@ -12,7 +12,7 @@ use Rattle.hwrite.proofs.Printed.{children_are}
 use Rattle.hwrite.proofs.Tasks.{parsed_printed}
 use Rattle.html_c.specs.Exports.{GivesText, GivesNone, case_given, comes_to_none, GivesNoRows, no_rows, prints}
 use Rattle.html_c.specs.Given.{IsCommand, escaping_told, may_be_in}
-use Rattle.html_c.specs.Page.{GivesErrors, GivesPage, GivesOrigins, GivesWanted, Parts, error_row, wants_told}
+use Rattle.html_c.specs.Page.{GivesErrors, GivesPage, GivesOrigins, GivesWanted, error_row, wants_told}
 use Rattle.html_c.specs.Rows.{origins_of}
 use Rattle.html_c.specs.Trees.{parsed_parts, origins_by}
 use Rattle.html_c.specs.declared.fault.CallFault.TheVariants as fault
@@ -98,9 +98,9 @@ module _ (input : List ℕ) (given : Given) (places : Bool) (parsed : Parsed) (h
       text_is = printed;
     }
 
-    pub a_page : (number : ℕ) (wants : Wants) (page : Parts) → wants_told number ≡ Some wants → places ≡ wants.origins
-        → page ≡ parsed_parts parsed wants.errors (if wants.text then parsed_text how task.Write None parsed else []) → GivesPage number input given page
-    a_page number wants page wants_are asks is = rw is record {
+    pub a_page : (number : ℕ) (wants : Wants) (tree : Parsed) (text : List ℕ) → wants_told number ≡ Some wants → places ≡ wants.origins → tree ≡ parsed
+        → text ≡ (if wants.text then parsed_text how task.Write None tree else []) → GivesPage number input given (parsed_parts tree wants.errors text)
+    a_page number wants tree text wants_are asks same is = rw (is, same) record {
       wants = wants;
       how = how;
       wants_are = wants_are;

@@ -9,7 +9,7 @@ use Rattle.hnodes.specs.Edits.{AreCounted}
 use Rattle.hnodes.specs.Passed.{order}
 use Rattle.hnodes.specs.Spots.{what_of}
 use Rattle.hserialize.proofs.Seen.{Seen, seen}
-use Rattle.html_c.specs.Rows.{node_words_at, origin_at, origins_of, row_at, row_of}
+use Rattle.html_c.specs.Rows.{node_words_at, origin_at, origins_of, row_at, tree_row}
 use Rattle.hparse.specs.declared.origins.Origin.{Origin}
 use Rattle.html_c.specs.declared.answer.NodeRow.{NodeRow}
 
@@ -31,7 +31,7 @@ module _ (made : ℕ) (f : Forest ℕ) (root : ℕ) where
         first_child = link_to (is.first i);
         next = link_to (is.next i);
       } ∷ flat_map (node_row f) (order kids ++ order rest))
-      ∙ ap (λ l. row_of b (Some p) w kids rest ∷ l)
+      ∙ ap (λ l. tree_row b (Some p) w kids rest ∷ l)
       (flat_map-append (node_row f) (order kids) (order rest) ∙ ap₂ (λ (l r : List NodeRow). l ++ r) (rows_listed b kids inside) (rows_listed p rest after))
 
   words_listed : (names : Texts) (p : ℕ) (g : Forest ℕ) → Seen made f root p g → flat_map (node_bytes names f) (order g) ≡ words_of (mapped (text_of names) g)

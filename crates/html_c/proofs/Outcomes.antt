@@ -2,16 +2,16 @@
 use Rattle.html_c.proofs.Names.{◌≡◌, ℕ, Bool, true, List, [], Result, Ok, Err, sym, subst, IsErrAnd, if◌then◌else◌, Refusal, CallFault, Fitted}
 use Rattle.std.proofs.Common.{MatchResult}
 use Rattle.html_c.specs.Fitted.{IsFitted}
-use Rattle.html_c.specs.Given.{GivesNothing, IsSize, of_size}
+use Rattle.html_c.specs.Given.{GivesNothing, no_size, of_size}
 
 pub fails : {T : Type 0} (r : Result T CallFault) (f : CallFault) (P : T → Type 0) (Q : CallFault → Type 0) → IsErrAnd r (λ g. g ≡ f) → Q f → MatchResult r P Q
 fails (Ok x) f P Q is h = absurd is
 fails (Err g) f P Q is h = subst Q (sym is) h
 
--- with options of a size that is known
-pub sized : {T : Type 0} (r : Result T CallFault) (size : ℕ) (P : T → Type 0) (Q : CallFault → Type 0) → IsSize size → MatchResult r P Q → MatchResult r P (GivesNothing size Q)
-sized (Ok x) size P Q is h = h
-sized (Err f) size P Q is h = of_size is h
+-- reasons that are among others
+pub reasons : (size : ℕ) (P Q : CallFault → Type 0) (why : CallFault) → ((f : CallFault) → P f → Q f) → GivesNothing size P why → GivesNothing size Q why
+reasons size P Q why among (no_size is) = no_size is
+reasons size P Q why among (of_size is because) = of_size is (among why because)
 
 -- a text that is wanted
 pub fitted : (wanted : Bool) (room : ℕ) (text : List ℕ) (old : Fitted) (r : Result Fitted Refusal) → wanted ≡ true → old.room ≡ room → IsFitted old.room text r

@@ -1,5 +1,5 @@
 -- Tables of character references, by what says them.
-use Rattle.html_c.proofs.Names.{◌≡◌, ◌∙◌, ℕ, List, Result, Ok, Err, inl, inr, ap, length, refl, subst, sym, Refusal, table_of_json, ReadsQuirks, ParseOptions, AllowsContext, IsPieceSize, Tells, context_told, ReadsTableBytes, Given, CallFault}
+use Rattle.html_c.proofs.Names.{◌≡◌, ◌∙◌, ℕ, List, Result, Ok, Err, inl, inr, ap, length, refl, subst, sym, Refusal, table_of_json, ReadsQuirks, ParseOptions, AllowsContext, IsPieceSize, Tells, context_told, ReadsTableBytes, Given}
 use Rattle.std.specs.Prelude.{◌↔◌, nat_le}
 use Rattle.names.specs.declared.refusal.TableFault.{TableFault}
 use Rattle.htext.specs.declared.decoder.TheConstants.{MAX_INPUT}
@@ -9,25 +9,23 @@ use Rattle.charref.specs.Reference.{Entities}
 use Rattle.hmodes.specs.Bounds.{AreLimits}
 use Rattle.html_c.specs.Given.{AreSameButTables, bad_told}
 use Rattle.html_c.specs.Room.{put_over, room_answer}
-use Rattle.html_c.specs.Table.{AnswersTable, IsTableOf, form_of, table_answered, table_read, table_ran_out, no_flat, no_json, no_text}
+use Rattle.html_c.specs.Table.{AnswersTable, Core, Flat, IsTableOf, Json, TableForm, table_form, table_answered, table_read, table_ran_out, no_flat, no_json, no_text}
 use Rattle.html_c.specs.declared.answer.Answer.{Answer}
 use Rattle.html_c.specs.declared.fault.CallFault.TheVariants as fault
-use Rattle.html_c.specs.declared.table.Form.{Form}
-use Rattle.html_c.specs.declared.table.Form.TheVariants as form
 
 -- a JSON text is refused for its first fault
-refused_json : (bytes : List ℕ) (e : Refusal) (read : Result Entities TableFault) → table_of_json bytes ≡ read → form_of bytes ≡ form.Json → IsRefusedWith read e
+refused_json : (bytes : List ℕ) (e : Refusal) (read : Result Entities TableFault) → table_of_json bytes ≡ read → table_form bytes ≡ Json → IsRefusedWith read e
     → ReadsTableBytes bytes (Err (fault.Refused e))
 refused_json bytes e (Ok table) read is memory = table_ran_out (ap (λ (x : Refusal). Err (fault.Refused x)) memory)
 refused_json bytes e (Err cause) read is (inl memory) = table_ran_out (ap (λ (x : Refusal). Err (fault.Refused x)) memory)
 refused_json bytes e (Err cause) read is (inr its) = no_json cause is read (ap (λ (x : Refusal). Err (fault.Refused x)) its)
 
-pub json_refused : (bytes text : List ℕ) (e : Refusal) → form_of bytes ≡ form.Json → text ≡ bytes → IsRefusedWith (table_of_json text) e → ReadsTableBytes bytes (Err (fault.Refused e))
+pub json_refused : (bytes text : List ℕ) (e : Refusal) → table_form bytes ≡ Json → text ≡ bytes → IsRefusedWith (table_of_json text) e → ReadsTableBytes bytes (Err (fault.Refused e))
 json_refused bytes text e is same refused = refused_json bytes e (table_of_json bytes) refl is (subst (λ t. IsRefusedWith (table_of_json t) e) same refused)
 
 -- the table of a form is what is read
-pub table_is : (bytes : List ℕ) (table : Entities) (f : Form) → form_of bytes ≡ f → IsTableOf f bytes table → ReadsTableBytes bytes (Ok table)
-table_is bytes table f is its = table_read table (subst (λ (x : Form). IsTableOf x bytes table) (sym is) its) refl
+pub table_is : (bytes : List ℕ) (table : Entities) (f : TableForm) → table_form bytes ≡ f → IsTableOf f bytes table → ReadsTableBytes bytes (Ok table)
+table_is bytes table f is its = table_read table (subst (λ (x : TableForm). IsTableOf x bytes table) (sym is) its) refl
 
 -- with the bytes that are its flat form
 pub answered : (bytes old new flat : List ℕ) (answer : Answer) (table : Entities) → ReadsTableBytes bytes (Ok table) → IsReadable table → flat ≡ flat_of table
@@ -36,20 +34,11 @@ answered bytes old new flat answer table read readable is put its =
     table_answered table read readable (subst (λ t. new ≡ put_over (nat_le (length t) (length old)) t old) is put)
     (subst (λ t. answer ≡ room_answer (nat_le (length t) (length old)) (length t) 0) is its)
 
-abbrev the_ok : Entities → Result Entities TableFault
-the_ok table = Ok table
-
-one_ok : (table other : Entities) → the_ok table ≡ the_ok other → table ≡ other
+one_ok : {E : Type 0} (table other : Entities) → ◌≡◌ {A = Result Entities E} (Ok table) (Ok other) → table ≡ other
 one_ok table other is = cc
 
-abbrev the_table : Entities → Result Entities CallFault
-the_table table = Ok table
-
-one_answer : (table other : Entities) → the_table table ≡ the_table other → other ≡ table
-one_answer table other is = cc
-
-said : (bytes : List ℕ) (table : Entities) → ReadsTableBytes bytes (Ok table) → IsTableOf (form_of bytes) bytes table
-said bytes table (table_read other is same) = subst (IsTableOf (form_of bytes) bytes) (one_answer table other same) is
+said : (bytes : List ℕ) (table : Entities) → ReadsTableBytes bytes (Ok table) → IsTableOf (table_form bytes) bytes table
+said bytes table (table_read other is same) = subst (IsTableOf (table_form bytes) bytes) (sym (one_ok table other same)) is
 said bytes table (table_ran_out same) = absurd cc
 said bytes table (no_flat is none same) = absurd cc
 said bytes table (no_json cause is its same) = absurd cc
@@ -81,19 +70,19 @@ flipped given other same = record {
 }
 
 module _ (one : (table other : Entities) → IsReadable table → IsReadable other → flat_of table ≡ flat_of other → table ≡ other) where
-  one_of : (f : Form) (bytes : List ℕ) (table other : Entities) → IsTableOf f bytes table → IsTableOf f bytes other → table ≡ other
-  one_of form.Core bytes table other is its = is ∙ sym its
-  one_of form.Flat bytes table other (readable, is) (its, same) = one table other readable its (is ∙ sym same)
-  one_of form.Json bytes table other is its = one_ok table other (sym is ∙ its)
+  one_of : (f : TableForm) (bytes : List ℕ) (table other : Entities) → IsTableOf f bytes table → IsTableOf f bytes other → table ≡ other
+  one_of Core bytes table other is its = is ∙ sym its
+  one_of Flat bytes table other (readable, is) (its, same) = one table other readable its (is ∙ sym same)
+  one_of Json bytes table other is its = one_ok table other (sym is ∙ its)
 
   one_read : (bytes : List ℕ) (table other : Entities) → ReadsTableBytes bytes (Ok table) → ReadsTableBytes bytes (Ok other) → table ≡ other
-  one_read bytes table other read its = one_of (form_of bytes) bytes table other (said bytes table read) (said bytes other its)
+  one_read bytes table other read its = one_of (table_form bytes) bytes table other (said bytes table read) (said bytes other its)
 
   -- with the flat form in the place of other bytes of a table the options are the same
   pub same_told : (given flat : Given) (table : Entities) (opts : ParseOptions) → ReadsTableBytes given.entities.now (Ok table) → IsReadable table
       → flat.entities.now ≡ flat_of table → AreSameButTables given flat → Tells given opts ↔ Tells flat opts
   same_told given flat table opts read readable is same =
-      let its = subst (λ bs. ReadsTableBytes bs (Ok table)) (sym is) (table_is (flat_of table) table form.Flat refl (readable, refl)) in (
+      let its = subst (λ bs. ReadsTableBytes bs (Ok table)) (sym is) (table_is (flat_of table) table Flat refl (readable, refl)) in (
         λ t. told given flat opts same (subst (λ (x : Entities). ReadsTableBytes flat.entities.now (Ok x)) (one_read given.entities.now table opts.table read t.table) its) t,
         λ t. told flat given opts (flipped given flat same) (subst (λ (x : Entities). ReadsTableBytes given.entities.now (Ok x)) (one_read flat.entities.now table opts.table its t.table) read) t,
       )

@@ -23,11 +23,6 @@ refusal_number (refusal.BadQuirks line) = 10
 refusal_number refusal.BadLimits = 11
 refusal_number refusal.Write = 12
 
--- a refusal of a run that writes to memory
-abbrev pub kept : Refusal → Refusal
-kept refusal.Write = refusal.Memory
-kept why = why
-
 abbrev pub element_number : RefusedName → ℕ
 element_number element.Math = 1
 element_number element.Svg = 2

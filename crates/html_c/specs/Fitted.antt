@@ -9,8 +9,8 @@ abbrev pub fitted_text : Fitted → List ℕ
 fitted_text it = it.all.bytes
 
 -- what a writer to it keeps: its room, and after that the text
-abbrev pub written : Fitted → Option (List ℕ)
-written it = Some (it.room ∷ it.all.bytes)
+abbrev pub fitted_contents : Fitted → Option (List ℕ)
+fitted_contents it = Some (it.room ∷ it.all.bytes)
 
 abbrev pub fitted_failures : Fitted → ℕ
 fitted_failures it = it.failures

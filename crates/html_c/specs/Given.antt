@@ -21,6 +21,7 @@ use Rattle.hserialize.specs.declared.escaping.Escaping.TheVariants.{One, Two}
 use Rattle.html_c.specs.Table.{ReadsTableBytes}
 use Rattle.html_c.specs.declared.answer.Given.{Given}
 use Rattle.html_c.specs.declared.given.Lists.{Lists}
+use Rattle.html_c.specs.declared.given.Settings.{Settings}
 use Rattle.html_c.specs.declared.fault.CallFault.{CallFault}
 use Rattle.html_c.specs.declared.fault.CallFault.TheVariants as fault
 
@@ -108,24 +109,29 @@ pub data Unmet (given : Given) (why : CallFault) : Type 0 where
 abbrev pub keys_told : Given → DefaultHasher
 keys_told given = made_of (given.key_high * 2 ^ 64 + given.key_low)
 
--- These are the lists that are given.
-abbrev pub HasLists : Given → Lists → Type 0
-HasLists given lists = ReadsTableBytes given.entities.now (Ok lists.table) × ReadsQuirks given.quirks.now (Ok lists.quirks)
+-- These are the lists, the way with bad bytes and the limits that are given, and they are accepted.
+pub record HasLists (given : Given) (lists : Lists) : Type 0 where
+  pub table : ReadsTableBytes given.entities.now (Ok lists.table)
+  pub quirks : ReadsQuirks given.quirks.now (Ok lists.quirks)
+  pub bad_bytes : bad_told given.bad_bytes ≡ Some lists.bad_bytes
+  pub limits : lists.limits ≡ bounds_told given
+  pub in_range : AreLimits (bounds_told given)
 
--- These are the limits that are given.
-abbrev pub HasLimits : Given → Bounds → Type 0
-HasLimits given limits = AreLimits (bounds_told given) × (limits ≡ bounds_told given)
+-- These settings are what is given, and it is accepted.
+pub record HasSettings (given : Given) (settings : Settings) : Type 0 where
+  pub size : IsSize given.size
+  pub context : own_context settings.context ≡ context_told given.context.now
+  pub allows : AllowsContext (context_told given.context.now)
+  pub given_piece : IsPieceSize given.piece
+  pub piece : 0 < settings.piece
 
 -- A command is what is given, with the task of this number.
 pub record IsCommand (number : ℕ) (given : Given) (command : Command) : Type 0 where
-  pub size : IsSize given.size
   pub task : task_told number ≡ Some command.task
   pub placed : may_be_in number (context_told given.context.now) ≡ true
   pub escaping : escaping_told given.escaping ≡ Some command.escaping
   pub context : own_context command.context ≡ context_told given.context.now
-  pub allows : AllowsContext (context_told given.context.now)
-  pub piece : command.piece ≡ given.piece
-  pub is_piece : IsPieceSize command.piece
+  pub piece : 0 < command.piece
 
 -- There is none, for this reason.
 pub data NoCommand (number : ℕ) (given : Given) (why : CallFault) : Type 0 where

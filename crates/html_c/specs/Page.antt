@@ -29,8 +29,8 @@ pub record Parts : Type 0 where
   pub text : List ℕ
   pub origins : List OriginRow
 
-abbrev pub parts : List NodeRow → (words : List ℕ) → List ErrorRow → (text : List ℕ) → List OriginRow → Parts
-parts rows words errors text origins = record { rows = rows; words = words; errors = errors; text = text; origins = origins }
+abbrev pub as_parts : List NodeRow → (words : List ℕ) → List ErrorRow → (text : List ℕ) → List OriginRow → Parts
+as_parts rows words errors text origins = record { rows = rows; words = words; errors = errors; text = text; origins = origins }
 
 -- whether all parts fit their rooms
 abbrev pub all_fit : Parts → Parts → Bool
@@ -43,7 +43,7 @@ all_fit page rooms =
 abbrev pub put_parts : Parts → Parts → Parts
 put_parts page rooms =
     let fits = all_fit page rooms in
-    parts (put_over fits page.rows rooms.rows) (put_over fits page.words rooms.words)
+    as_parts (put_over fits page.rows rooms.rows) (put_over fits page.words rooms.words)
     (put_over fits page.errors rooms.errors) (put_over fits page.text rooms.text) (put_over fits page.origins rooms.origins)
 
 -- the answer to a page that fits or does not, and to none

@@ -13,20 +13,20 @@ use Rattle.html_c.specs.declared.answer.NodeRow.{NodeRow}
 use Rattle.html_c.specs.declared.answer.OriginRow.{OriginRow}
 
 -- a word with what ends it
-abbrev pub ended : List ℕ → List ℕ
-ended word = word ++ 255 ∷ []
+abbrev pub ended_word : List ℕ → List ℕ
+ended_word word = word ++ 255 ∷ []
 
 -- an attribute: its name and its value
-abbrev pub attribute_words : Attribute (List ℕ) → List ℕ
-attribute_words a = ended a.0 ++ ended a.1
+abbrev pub ended_attribute : Attribute (List ℕ) → List ℕ
+ended_attribute a = ended_word a.0 ++ ended_word a.1
 
 -- a node: the name of an element and its attributes, the name and the identifiers of a doctype, the data of a comment, the characters of a text
 abbrev pub words_in : What (List ℕ) → List ℕ
 words_in document = []
-words_in (doctype name public_id system_id) = ended name ++ (ended public_id ++ ended system_id)
-words_in (element name attrs) = ended name ++ flat_map attribute_words attrs
-words_in (comment t) = ended t
-words_in (text t) = ended t
+words_in (doctype name public_id system_id) = ended_word name ++ (ended_word public_id ++ ended_word system_id)
+words_in (element name attrs) = ended_word name ++ flat_map ended_attribute attrs
+words_in (comment t) = ended_word t
+words_in (text t) = ended_word t
 
 -- the same with what ends them
 abbrev pub node_words : What (List ℕ) → List ℕ
@@ -61,8 +61,8 @@ row_at n f = record {
   next = link_to (next_of n f);
 }
 
-abbrev pub row_of : {N : Type 0} → ℕ → Option ℕ → What N → (children rest : Forest N) → NodeRow
-row_of n parent w children rest = record {
+abbrev pub tree_row : {N : Type 0} → ℕ → Option ℕ → What N → (children rest : Forest N) → NodeRow
+tree_row n parent w children rest = record {
   number = n;
   kind = kind_number (kind_in w);
   parent = link_to parent;
@@ -73,7 +73,7 @@ row_of n parent w children rest = record {
 -- the rows and the words of trees below a node, in tree order
 abbrev pub rows_of : {N : Type 0} → (parent : ℕ) → Forest N → List NodeRow
 rows_of parent none = []
-rows_of parent (tree n w children rest) = row_of n (Some parent) w children rest ∷ (rows_of n children ++ rows_of parent rest)
+rows_of parent (tree n w children rest) = tree_row n (Some parent) w children rest ∷ (rows_of n children ++ rows_of parent rest)
 
 abbrev pub words_of : Forest (List ℕ) → List ℕ
 words_of none = []

@@ -10,7 +10,7 @@ use Rattle.hwrite.specs.Context.{case_in}
 use Rattle.hwrite.specs.Prints.{parsed_nodes}
 use Rattle.html_c.specs.Exports.{ComesToNone, case_given}
 use Rattle.html_c.specs.Given.{Tells}
-use Rattle.html_c.specs.Page.{Parts, error_row, parts}
+use Rattle.html_c.specs.Page.{Parts, error_row, as_parts}
 use Rattle.html_c.specs.Rows.{origins_of, rows_of, words_of}
 use Rattle.html_c.specs.declared.answer.Given.{Given}
 use Rattle.html_c.specs.declared.answer.NodeRow.{NodeRow}
@@ -46,4 +46,4 @@ parsed_origins parsed = origins_by (places_in parsed) (children_of parsed.root p
 -- its parts, with this text, and with its errors where they are wanted
 abbrev pub parsed_parts : Parsed → (has_errors : Bool) → (text : List ℕ) → Parts
 parsed_parts parsed has_errors text =
-    parts (parsed_rows parsed) (parsed_words parsed) (if has_errors then map error_row parsed.errors.items else []) text (parsed_origins parsed)
+    as_parts (parsed_rows parsed) (parsed_words parsed) (if has_errors then map error_row parsed.errors.items else []) text (parsed_origins parsed)

@@ -1,10 +1,10 @@
 //! Why a call gives nothing.
 
 ghost use Rattle.std.specs.Prelude.{◌≡◌};
-ghost use Rattle.html_c.specs.Faults.{at_of, cause_number, fault_detail, element_number, refusal_number, call_fault_status};
+ghost use Rattle.html_c.specs.Faults.{at_of, fault_detail, refusal_number, call_fault_status};
 ghost use Rattle.html_c.specs.declared.fault.CallFault.TheVariants as fault;
 
-use names::{Refusal, RefusedName, TableFault};
+use names::Refusal;
 
 /// Why a call gives nothing.
 #[derive(Clone, Copy)]
@@ -46,8 +46,8 @@ impl CallFault {
         ensures { result ≡ fault_detail self }
     {
         match self {
-            CallFault::Refused(Refusal::OutOfProfile { name, .. }) => element_number(name),
-            CallFault::Refused(Refusal::BadTable { cause }) => cause_number(cause),
+            CallFault::Refused(Refusal::OutOfProfile { name, .. }) => name as u32 + 1,
+            CallFault::Refused(Refusal::BadTable { cause }) => cause as u32 + 1,
             _ => 0,
         }
     }
@@ -88,18 +88,4 @@ fn refusal_number(refusal: Refusal) -> u32
         Refusal::BadLimits => 11,
         Refusal::Write => 12,
     }
-}
-
-/// The number of an element that is left out of the profile.
-fn element_number(name: RefusedName) -> u32
-    ensures { result ≡ element_number name }
-{
-    name as u32 + 1
-}
-
-/// The number of what is wrong with a table of references.
-fn cause_number(cause: TableFault) -> u32
-    ensures { result ≡ cause_number cause }
-{
-    cause as u32 + 1
 }

@@ -1,12 +1,13 @@
 //! A text of which no more is kept than has room.
 
-ghost use Rattle.std.specs.Prelude.{◌≡◌, ◌≤◌, length};
+ghost use Rattle.std.specs.Prelude.{◌≡◌, ◌≤◌, ◌++◌, ℕ, List, [], length};
+ghost use Rattle.std.specs.Borrow.{ftrue};
 
-use crate::history::History;
 use crate::room::put;
 use hserialize::Target;
 use names::Refusal;
 use std::alloc::Global;
+use std::marker::Model;
 
 /// The length of a text, and its bytes if they fit into a room.
 #[derive(Drop)]
@@ -22,9 +23,9 @@ pub(crate) struct Fitted {
 }
 
 impl Fitted {
-    ghost use Rattle.std.specs.Prelude.{◌++◌, ℕ, List, [], Some, None, true, nat_le};
+    ghost use Rattle.std.specs.Prelude.{Some, None, true};
     ghost use Rattle.hserialize.specs.Output.{WritesText};
-    ghost use Rattle.html_c.specs.Fitted.{fitted_failures, IsFitted, fitted_text, written};
+    ghost use Rattle.html_c.specs.Fitted.{fitted_failures, IsFitted, fitted_contents, fitted_text};
     ghost use Rattle.html_c.specs.Room.{put_over};
 
     /// No text yet.
@@ -60,20 +61,12 @@ impl Fitted {
     /// The text that was written, if all of it was: what fails is memory alone.
     pub(crate) fn written(self, answer: Result<(), Refusal>) -> Result<Fitted, Refusal>
         ensures { (text : List ℕ) (old : Fitted) → fitted_text old ≡ []
-            → WritesText written fitted_failures text old self answer → IsFitted old.room text result }
+            → WritesText fitted_contents fitted_failures text old self answer → IsFitted old.room text result }
     {
         match answer {
             Ok(()) => Ok(self),
             Err(_) => Err(Refusal::Memory),
         }
-    }
-
-    /// Whether it fits its room.
-    pub(crate) fn fits(&self, room: &[u8]) -> bool
-        requires { self.now.room ≡ length room.now }
-        ensures { result ≡ nat_le (length (fitted_text self.now)) (length room.now) }
-    {
-        self.count <= room.len()
     }
 
     /// Writes it to the beginning of its room, if it is to be written.
@@ -87,9 +80,9 @@ impl Fitted {
 }
 
 impl Target for Fitted {
-    ghost use Rattle.html_c.specs.Fitted.{fitted_failures, written};
+    ghost use Rattle.html_c.specs.Fitted.{fitted_contents, fitted_failures};
 
-    ghost written = { written };
+    ghost written = { fitted_contents };
 
     ghost failed = { fitted_failures };
 
@@ -107,5 +100,31 @@ impl Target for Fitted {
 
     fn failures(&self) -> u64 {
         self.failures
+    }
+}
+
+/// All bytes that were written to a text. It takes no memory and does nothing: only proofs read it.
+#[derive(Drop)]
+struct History {
+    ghost bytes: { List ℕ },
+}
+
+impl Model for History {
+    ghost also_owns = { λ _. ftrue };
+}
+
+impl History {
+    /// Nothing yet.
+    fn new() -> History
+        ensures { result.bytes ≡ [] }
+    {
+        History {}
+    }
+
+    /// The same, and then these bytes.
+    fn with(&self, _bytes: &[u8]) -> History
+        ensures { result.bytes ≡ self.now.bytes ++ _bytes.now }
+    {
+        History {}
     }
 }

@@ -1,7 +1,7 @@
 //! The options of a call.
 
-ghost use Rattle.std.specs.Prelude.{◌≡◌, ◌<◌, MatchResult, Some, None, Ok};
-ghost use Rattle.html_c.specs.Vocabulary.{ReadsQuirks, options_of, own_context, AllowsContext, bad_told, context_told, escaping_told, keys_told, may_be_in, task_told, HasLimits, HasLists, IsCommand, IsPieceSize, IsSize, NoCommand, NoEscaping, NoSize, Tells, Unmet};
+ghost use Rattle.std.specs.Prelude.{◌≡◌, MatchResult, Ok, Some};
+ghost use Rattle.html_c.specs.Vocabulary.{ReadsQuirks, options_of, own_context, AllowsContext, bad_told, context_told, escaping_told, keys_told, may_be_in, task_told, GivesNothing, HasLists, HasSettings, IsCommand, IsSize, NoCommand, NoEscaping, Settings, Tells, Unmet};
 
 use crate::answer::Given;
 use crate::fault::CallFault;
@@ -21,53 +21,93 @@ const SIZE: usize = 104;
 /// The most bytes that are fed at a time.
 const MOST_PIECE: u64 = 65_536;
 
-/// The numbers of the tasks that are not for every input.
-const TOKENS: u32 = 0;
-
-const PLAIN: u32 = 4;
-
-const PLAIN_DOCUMENT: u32 = 5;
-
 /// The task of a number.
-pub(crate) fn task_of(number: u32) -> Option<Task>
+fn task_of(number: u32) -> Option<Task>
     ensures { result ≡ task_told number }
 {
     match number {
-        TOKENS => Some(Task::Tokens),
+        0 => Some(Task::Tokens),
         1 => Some(Task::Tree),
         2 => Some(Task::Errors),
         3 => Some(Task::Write),
-        PLAIN | PLAIN_DOCUMENT => Some(Task::Plain),
+        4 | 5 => Some(Task::Plain),
         _ => None,
     }
 }
 
-/// Whether the task of a number is one for a fragment in this element, or for a document where there is none.
+/// Whether the task of a number is one for a fragment in this element, or for a document where there is none: 0 and 5 are those of a
+/// document, 4 that of a fragment.
 fn may_be_in(number: u32, context: Option<&str>) -> bool
     ensures { result ≡ may_be_in number (own_context context.entry) }
 {
     match context {
-        Some(_) => number != TOKENS && number != PLAIN_DOCUMENT,
-        None => number != PLAIN,
+        Some(_) => number != 0 && number != 5,
+        None => number != 4,
     }
 }
 
-/// The lists that are given.
+/// The lists that are given, what becomes of bytes that are not UTF-8, and how large a tree may become.
 #[derive(Drop)]
 pub(crate) struct Lists {
-    pub(crate) table: Table,
-    pub(crate) quirks: Quirks,
+    table: Table,
+    quirks: Quirks,
+    bad_bytes: BadBytes,
+    limits: Limits,
+}
+
+/// How an input is read.
+#[derive(Clone, Copy)]
+pub(crate) struct Settings<'a> {
+    /// The name of the element in which it is, if it is a fragment.
+    pub(crate) context: Option<&'a str>,
+    /// How many bytes are fed at a time: no more than there are, as the buffer has so many.
+    pub(crate) piece: usize,
 }
 
 impl<'a> Given<'a> {
-    /// Checks that the options have the size that the library knows. Every other call here requires it, and so reads nothing before.
-    pub(crate) fn check_size(&self) -> Result<(), CallFault>
-        ensures { MatchResult result (λ _. IsSize self.now.size) (NoSize self.now.size) }
+    /// How this input is read. Of options of a size that the library does not know no more is read; every other call here requires that
+    /// their size is known.
+    pub(crate) fn settings(&self, input: &[u8]) -> Result<Settings<'a>, CallFault>
+        ensures { MatchResult result (HasSettings self.now) (GivesNothing self.now.size (Unmet self.now)) }
     {
-        if self.size == SIZE {
-            Ok(())
-        } else {
-            Err(CallFault::BadSize)
+        if self.size != SIZE {
+            return Err(CallFault::BadSize);
+        }
+        let context = self.context()?;
+        if self.piece == 0 || self.piece > MOST_PIECE {
+            return Err(CallFault::BadNumber);
+        }
+        let piece = (self.piece as usize).min(input.len()).max(1);
+        Ok(Settings { context, piece })
+    }
+
+    /// The element's name.
+    fn context(&self) -> Result<Option<&'a str>, CallFault>
+        requires { IsSize self.now.size }
+        ensures { let told = context_told self.now.context.now in
+            MatchResult result (λ name. (own_context name ≡ told) × AllowsContext told) (Unmet self.now) }
+    {
+        if self.context.is_empty() {
+            return Ok(None);
+        }
+        match str::from_utf8(self.context) {
+            Ok(name) => {
+                check_context(Some(name))?;
+                Ok(Some(name))
+            }
+            Err(_) => Err(CallFault::NotText),
+        }
+    }
+
+    /// What becomes of bytes that are not UTF-8.
+    fn bad_bytes(&self) -> Result<BadBytes, CallFault>
+        requires { IsSize self.now.size }
+        ensures { MatchResult result (λ bad. bad_told self.now.bad_bytes ≡ Some bad) (Unmet self.now) }
+    {
+        match self.bad_bytes {
+            0 => Ok(BadBytes::Refuse),
+            1 => Ok(BadBytes::Replace),
+            _ => Err(CallFault::BadNumber),
         }
     }
 
@@ -83,41 +123,28 @@ impl<'a> Given<'a> {
         }
     }
 
-    /// How many bytes are fed at a time.
-    pub(crate) fn piece(&self) -> Result<usize, CallFault>
-        requires { IsSize self.now.size }
-        ensures { MatchResult result (λ piece. (piece ≡ self.now.piece) × IsPieceSize piece) (Unmet self.now) }
+    /// The command that is given, with the task of this number.
+    pub(crate) fn command(
+        &self,
+        number: u32,
+        settings: &Settings<'a>,
+    ) -> Result<Command<'a>, CallFault>
+        requires { HasSettings self.now settings.now }
+        ensures { MatchResult result (IsCommand number self.now) (NoCommand number self.now) }
     {
-        if 0 < self.piece && self.piece <= MOST_PIECE {
-            Ok(self.piece as usize)
-        } else {
-            Err(CallFault::BadNumber)
+        let Some(task) = task_of(number) else {
+            return Err(CallFault::BadNumber);
+        };
+        if !may_be_in(number, settings.context) {
+            return Err(CallFault::Refused(Refusal::BadContext));
         }
-    }
-
-    /// The name of the element in which the input is, if it is a fragment.
-    pub(crate) fn context(&self) -> Result<Option<&'a str>, CallFault>
-        requires { IsSize self.now.size }
-        ensures { let told = context_told self.now.context.now in
-            MatchResult result (λ name. (own_context name ≡ told) × AllowsContext told) (Unmet self.now) }
-    {
-        let name = self.context_name()?;
-        check_context(name)?;
-        Ok(name)
-    }
-
-    /// The name that is given for it, which may be one that no fragment can have.
-    fn context_name(&self) -> Result<Option<&'a str>, CallFault>
-        requires { IsSize self.now.size }
-        ensures { MatchResult result (λ name. own_context name ≡ context_told self.now.context.now) (Unmet self.now) }
-    {
-        if self.context.is_empty() {
-            return Ok(None);
-        }
-        match str::from_utf8(self.context) {
-            Ok(name) => Ok(Some(name)),
-            Err(_) => Err(CallFault::NotText),
-        }
+        Ok(Command {
+            task,
+            context: settings.context,
+            escaping: self.escaping()?,
+            piece: settings.piece,
+            is_last: false,
+        })
     }
 
     /// The quirks list.
@@ -131,89 +158,38 @@ impl<'a> Given<'a> {
         }
     }
 
-    /// The command that is given, with the task of this number.
-    pub(crate) fn command(&self, number: u32) -> Result<Command<'a>, CallFault>
-        requires { IsSize self.now.size }
-        ensures { MatchResult result (IsCommand number self.now) (NoCommand number self.now) }
-    {
-        let Some(task) = task_of(number) else {
-            return Err(CallFault::BadNumber);
-        };
-        let context = self.context()?;
-        if !may_be_in(number, context) {
-            return Err(CallFault::Refused(Refusal::BadContext));
-        }
-        Ok(Command {
-            task,
-            context,
-            escaping: self.escaping()?,
-            piece: self.piece()?,
-            is_last: false,
-        })
-    }
-
     /// The lists that are given, for this input.
     pub(crate) fn lists(&self, alloc: Global, input: &[u8]) -> Result<Lists, CallFault>
         requires { IsSize self.now.size }
         ensures { MatchResult result (HasLists self.now) (Unmet self.now) }
     {
+        let bad_bytes = self.bad_bytes()?;
+        let limits = Limits::new(MAX_INPUT, self.nodes, self.open)?;
         let table = table_of(alloc, self.entities, input)?;
         let quirks = self.quirks(alloc)?;
-        Ok(Lists { table, quirks })
-    }
-
-    /// What becomes of bytes that are not UTF-8.
-    pub(crate) fn bad_bytes(&self) -> Result<BadBytes, CallFault>
-        requires { IsSize self.now.size }
-        ensures { MatchResult result (λ bad. bad_told self.now.bad_bytes ≡ Some bad) (Unmet self.now) }
-    {
-        match self.bad_bytes {
-            0 => Ok(BadBytes::Refuse),
-            1 => Ok(BadBytes::Replace),
-            _ => Err(CallFault::BadNumber),
-        }
-    }
-
-    /// How large a tree may become.
-    pub(crate) fn limits(&self) -> Result<Limits, CallFault>
-        requires { IsSize self.now.size }
-        ensures { MatchResult result (HasLimits self.now) (Unmet self.now) }
-    {
-        Ok(Limits::new(MAX_INPUT, self.nodes, self.open)?)
-    }
-
-    /// The keys of the hashes.
-    fn keys(&self) -> Keys
-        requires { IsSize self.now.size }
-        ensures { result ≡ keys_told self.now }
-    {
-        Keys::new((u128::from(self.key_high) << 64) | u128::from(self.key_low))
+        Ok(Lists {
+            table,
+            quirks,
+            bad_bytes,
+            limits,
+        })
     }
 
     /// The options, which lend the lists, and ask for the places of nodes or not.
-    pub(crate) fn options<'t>(
-        &self,
-        lists: &'t Lists,
-        bad_bytes: BadBytes,
-        limits: Limits,
-        places: bool,
-    ) -> Options<'t>
-        requires size { IsSize self.now.size }
-        requires context { AllowsContext (context_told self.now.context.now) }
-        requires piece { IsPieceSize self.now.piece }
+    pub(crate) fn options<'t>(&self, lists: &'t Lists, places: bool) -> Options<'t>
+        requires settings { (settings : Settings) × HasSettings self.now settings }
         requires lists { HasLists self.now lists.now }
-        requires bad_bytes { bad_told self.now.bad_bytes ≡ Some bad_bytes }
-        requires limits { HasLimits self.now limits }
         ensures told { Tells self.now (options_of result) }
         ensures keys { result.keys ≡ keys_told self.now }
         ensures places { result.places ≡ places }
     {
+        let key = (u128::from(self.key_high) << 64) | u128::from(self.key_low);
         Options {
             table: &lists.table,
             quirks: &lists.quirks,
-            bad_bytes,
-            limits,
-            keys: self.keys(),
+            bad_bytes: lists.bad_bytes,
+            limits: lists.limits,
+            keys: Keys::new(key),
             places,
         }
     }

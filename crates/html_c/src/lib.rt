@@ -3,13 +3,12 @@
 #![tactic(auto)]
 
 ghost use Rattle.std.specs.Prelude.{◌≡◌};
-ghost use Rattle.html_c.specs.Vocabulary.{AnswersText, AnswersTree, parts, AnswersPage, AnswersTable, version};
+ghost use Rattle.html_c.specs.Vocabulary.{AnswersText, AnswersTree, as_parts, AnswersPage, AnswersTable, version};
 
 mod answer;
 mod fault;
 mod fitted;
 mod given;
-mod history;
 mod input;
 pub mod laws;
 mod origins;
@@ -86,8 +85,8 @@ pub extern "C" fn jz_page(
     origins: &mut [OriginRow],
     answer: &mut PageAnswer,
 ) -> u32
-    ensures answers { AnswersPage wants input.now given.now (parts rows.old words.old errors.old text.old origins.old)
-        (parts rows.new words.new errors.new text.new origins.new) answer.new }
+    ensures answers { AnswersPage wants input.now given.now (as_parts rows.old words.old errors.old text.old origins.old)
+        (as_parts rows.new words.new errors.new text.new origins.new) answer.new }
     ensures status { result ≡ answer.new.status }
 {
     *answer = match page_of(alloc, wants, input, given, text.len()) {

@@ -1,7 +1,7 @@
 //! A page: the tree of an input, its parse errors and where its nodes came from as rows, and its HTML, by one parse.
 
 ghost use Rattle.std.specs.Prelude.{◌≡◌, ◌≤◌, if◌then◌else◌, [], true, length, map, None, IfOk, MatchResult};
-ghost use Rattle.html_c.specs.Vocabulary.{Memory, parsed_text, IsFitted, all_fit, error_row, page_answer, parts, put_parts, wants_told, GivesNoPage, GivesNothing, GivesPage, parsed_parts, put_over};
+ghost use Rattle.html_c.specs.Vocabulary.{parsed_text, IsFitted, all_fit, error_row, page_answer, as_parts, put_parts, wants_told, GivesNoPage, GivesNothing, GivesPage, put_over};
 ghost use Rattle.html_c.specs.Parts.{page_parts};
 ghost use Rattle.hwrite.specs.declared.command.Task.TheVariants as task;
 
@@ -13,7 +13,7 @@ use crate::room::{put_one, status};
 use crate::rows::Rows;
 use crate::tree::parse_of;
 use hparse::Parsed;
-use hwrite::{Escaping, serialize};
+use hwrite::Escaping;
 use names::{ParseError, Refusal};
 use std::alloc::Global;
 
@@ -85,37 +85,8 @@ fn html_in(
     if !wanted {
         return Ok(text);
     }
-    let answer = serialize(
-        alloc,
-        &parsed.tree,
-        &parsed.names,
-        parsed.root,
-        escaping,
-        &mut text,
-    );
+    let answer = parsed.serialize(alloc, escaping, &mut text);
     text.written(answer)
-}
-
-/// The page of what was parsed.
-fn page_in(
-    alloc: Global,
-    wants: Wants,
-    escaping: Escaping,
-    parsed: Parsed,
-    room: usize,
-) -> Result<Page, Refusal>
-    ensures made { MatchResult result
-        (λ page. page_parts page ≡ parsed_parts parsed wants.errors (if wants.text then parsed_text escaping task.Write None parsed else []))
-        (λ refusal. refusal ≡ Memory) }
-    ensures room { IfOk result (λ page. page.text.room ≡ room) }
-{
-    let text = html_in(alloc, wants.text, escaping, &parsed, room)?;
-    let tree = Rows::of(parsed)?;
-    Ok(Page {
-        tree,
-        has_errors: wants.errors,
-        text,
-    })
 }
 
 /// The page of an input.
@@ -130,13 +101,19 @@ pub(crate) fn page_of(
         (GivesNothing given.now.size (GivesNoPage number input.now given.now)) }
     ensures room { IfOk result (λ page. page.text.room ≡ room) }
 {
-    given.check_size()?;
+    let settings = given.settings(input)?;
     let Some(wants) = wants_of(number) else {
         return Err(CallFault::BadNumber);
     };
     let escaping = given.escaping()?;
-    let parsed = parse_of(alloc, input, given, wants.origins)?;
-    Ok(page_in(alloc, wants, escaping, parsed, room)?)
+    let parsed = parse_of(alloc, input, given, &settings, wants.origins)?;
+    let tree = Rows::of(parsed)?;
+    let text = html_in(alloc, wants.text, escaping, &tree.parsed, room)?;
+    Ok(Page {
+        tree,
+        has_errors: wants.errors,
+        text,
+    })
 }
 
 impl Page {
@@ -171,12 +148,12 @@ impl Page {
         origins: &[OriginRow],
     ) -> bool
         requires { self.now.text.room ≡ length text.now }
-        ensures { result ≡ all_fit (page_parts self.now) (parts rows.now words.now errors.now text.now origins.now) }
+        ensures { result ≡ all_fit (page_parts self.now) (as_parts rows.now words.now errors.now text.now origins.now) }
     {
         self.tree.nodes <= rows.len()
             && self.tree.words <= words.len()
             && self.errors().len() <= errors.len()
-            && self.text.fits(text)
+            && self.text.count <= text.len()
             && self.origin_count() <= origins.len()
     }
 
@@ -205,9 +182,9 @@ impl Page {
         origins: &mut [OriginRow],
     ) -> PageAnswer
         requires { self.now.text.room ≡ length text.old }
-        ensures put { parts rows.new words.new errors.new text.new origins.new
-            ≡ put_parts (page_parts self.now) (parts rows.old words.old errors.old text.old origins.old) }
-        ensures answer { result ≡ page_answer (all_fit (page_parts self.now) (parts rows.old words.old errors.old text.old origins.old)) (page_parts self.now) }
+        ensures put { as_parts rows.new words.new errors.new text.new origins.new
+            ≡ put_parts (page_parts self.now) (as_parts rows.old words.old errors.old text.old origins.old) }
+        ensures answer { result ≡ page_answer (all_fit (page_parts self.now) (as_parts rows.old words.old errors.old text.old origins.old)) (page_parts self.now) }
     {
         let fits = self.fits(rows, words, errors, text, origins);
         self.tree.put(fits, rows, words);

@@ -108,7 +108,7 @@ pub(crate) fn put_text(text: &Fitted, room: &mut [u8]) -> Answer
     ensures room { room.new ≡ put_over (nat_le (length (fitted_text text.now)) (length room.old)) (fitted_text text.now) room.old }
     ensures answer { result ≡ room_answer (nat_le (length (fitted_text text.now)) (length room.old)) (length (fitted_text text.now)) 0 }
 {
-    let fits = text.fits(room);
+    let fits = text.count <= room.len();
     text.put(fits, room);
     room_answer(fits, text.count, 0)
 }

@@ -2,11 +2,11 @@
 
 ghost use Rattle.std.specs.Prelude.{◌≡◌, ◌<◌, ◌≤◌, ◌⊎◌, true, length, flat_map, map, IfErr, MatchResult};
 ghost use Rattle.names.specs.Names.{text_of};
-ghost use Rattle.html_c.specs.Vocabulary.{Memory, PutsAt, greatest, mapped_attribute, what_of, attribute_words, ended, kind_number, link_to, parsed_rows, parsed_words, put_over, row_at, words_at};
+ghost use Rattle.html_c.specs.Vocabulary.{Memory, PutsAt, greatest, mapped_attribute, what_of, ended_attribute, ended_word, link_to, parsed_rows, parsed_words, put_over, row_at, words_at};
 
 use crate::answer::NodeRow;
 use crate::room::{put_at, put_one};
-use hnodes::{Attrs, NodeId, NodeKind, Tree};
+use hnodes::{Attrs, NodeId, Tree};
 use hparse::Parsed;
 use hserialize::NodeView;
 use names::{Names, Refusal};
@@ -19,7 +19,7 @@ const NODE_END: u8 = 0xFE;
 /// Puts a word at a place, and returns the place after it, as do the next.
 #[inline(always)]
 fn put_word(word: &str, room: &mut [u8], at: usize) -> usize
-    ensures { PutsAt at (ended word.now) room.old room.new result }
+    ensures { PutsAt at (ended_word word.now) room.old room.new result }
 {
     let end = put_at(word.as_bytes(), room, at);
     put_one(WORD_END, room, end)
@@ -28,7 +28,7 @@ fn put_word(word: &str, room: &mut [u8], at: usize) -> usize
 /// Puts the words of attributes.
 #[inline(always)]
 fn put_attributes(names: &Names, attrs: Attrs, room: &mut [u8], at: usize) -> usize
-    ensures { PutsAt at (flat_map attribute_words (map (mapped_attribute (text_of names.now)) attrs.entry)) room.old room.new result }
+    ensures { PutsAt at (flat_map ended_attribute (map (mapped_attribute (text_of names.now)) attrs.entry)) room.old room.new result }
 {
     let mut at = at;
     for (name, value) in attrs {
@@ -60,13 +60,6 @@ fn put_words(tree: &Tree, names: &Names, node: NodeId, room: &mut [u8], at: usiz
     }
 }
 
-/// The number of a kind.
-fn kind_number(kind: NodeKind) -> u32
-    ensures { result ≡ kind_number kind }
-{
-    kind as u32
-}
-
 /// The number of a link to a node, or to none.
 pub(crate) fn link_to(node: Option<NodeId>) -> u32
     ensures { result ≡ link_to node }
@@ -84,7 +77,7 @@ fn row_at(tree: &Tree, node: NodeId) -> NodeRow
 {
     NodeRow {
         number: link_to(Some(node)),
-        kind: kind_number(tree.kind(node)),
+        kind: tree.kind(node) as u32,
         parent: link_to(tree.parent(node)),
         first_child: link_to(tree.first_child(node)),
         next: link_to(tree.next(node)),

@@ -1,12 +1,12 @@
 //! What an input is parsed as, and the rows of its tree.
 
-ghost use Rattle.std.specs.Prelude.{◌≡◌, MatchResult};
-ghost use Rattle.html_c.specs.Vocabulary.{options_of, own_context, AllowsContext, GivesNoRows, GivesNothing, GivesRows, HasLists, IsPieceSize, IsSize, context_told, ComesToParse, GivesParse, parsed_rows, parsed_words};
+ghost use Rattle.std.specs.Prelude.{◌<◌, MatchResult};
+ghost use Rattle.html_c.specs.Vocabulary.{options_of, own_context, AllowsContext, GivesNoRows, GivesNothing, GivesRows, HasSettings, ComesToParse, GivesParse, parsed_rows, parsed_words};
 
 use crate::answer::Given;
 use crate::fault::CallFault;
-use crate::given::Lists;
-use crate::input::{Input, buffer_for};
+use crate::given::Settings;
+use crate::input::Input;
 use crate::rows::Rows;
 use hparse::{Options, Parsed, parse_reader};
 use hwrite::parser;
@@ -18,8 +18,8 @@ pub(crate) fn rows_of(alloc: Global, input: &[u8], given: &Given) -> Result<Rows
     ensures { MatchResult result (λ rows. GivesRows input.now given.now (parsed_rows rows.parsed) (parsed_words rows.parsed))
         (GivesNothing given.now.size (GivesNoRows input.now given.now)) }
 {
-    given.check_size()?;
-    let parsed = parse_of(alloc, input, given, false)?;
+    let settings = given.settings(input)?;
+    let parsed = parse_of(alloc, input, given, &settings, false)?;
     Ok(Rows::of(parsed)?)
 }
 
@@ -28,54 +28,30 @@ pub(crate) fn parse_of(
     alloc: Global,
     input: &[u8],
     given: &Given,
+    settings: &Settings,
     places: bool,
 ) -> Result<Parsed, CallFault>
-    requires { IsSize given.now.size }
+    requires { HasSettings given.now settings.now }
     ensures { MatchResult result (GivesParse input.now given.now places) (GivesNoRows input.now given.now) }
 {
-    let context = given.context()?;
-    let piece = given.piece()?;
     let lists = given.lists(alloc, input)?;
-    let parsed = parse_with(alloc, context, piece, input, given, &lists, places);
+    let options = given.options(&lists, places);
+    let parsed = parsed(alloc, settings, input, &options);
     drop(lists);
-    parsed
+    Ok(parsed?)
 }
 
-/// The same with these lists.
-fn parse_with(
-    alloc: Global,
-    context: Option<&str>,
-    piece: usize,
-    input: &[u8],
-    given: &Given,
-    lists: &Lists,
-    places: bool,
-) -> Result<Parsed, CallFault>
-    requires size { IsSize given.now.size }
-    requires context { own_context context ≡ context_told given.now.context.now }
-    requires allowed { AllowsContext (context_told given.now.context.now) }
-    requires piece { (piece ≡ given.now.piece) × IsPieceSize piece }
-    requires lists { HasLists given.now lists.now }
-    ensures { MatchResult result (GivesParse input.now given.now places) (GivesNoRows input.now given.now) }
-{
-    let bad_bytes = given.bad_bytes()?;
-    let limits = given.limits()?;
-    let options = given.options(lists, bad_bytes, limits, places);
-    Ok(parsed(alloc, context, piece, input, &options)?)
-}
-
-/// What is parsed in this element.
+/// The same with these options.
 fn parsed(
     alloc: Global,
-    context: Option<&str>,
-    piece: usize,
+    settings: &Settings,
     input: &[u8],
     options: &Options,
 ) -> Result<Parsed, Refusal>
-    requires { AllowsContext (own_context context) }
-    ensures { ComesToParse (options_of options.now) (own_context context.entry) (input.now) result }
+    requires { AllowsContext (own_context settings.now.context) × (0 < settings.now.piece) }
+    ensures { ComesToParse (options_of options.now) (own_context settings.now.context) (input.now) result }
 {
-    let parser = parser(alloc, context, options)?;
+    let parser = parser(alloc, settings.context, options)?;
     let mut source = Input::new(input);
-    parse_reader(alloc, parser, buffer_for(piece, input), &mut source)
+    parse_reader(alloc, parser, settings.piece, &mut source)
 }

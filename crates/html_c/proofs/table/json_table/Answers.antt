@@ -1,6 +1,6 @@
 use Rattle.html_c.proofs.Names.{◌≡◌, Ok, subst, table_of_json, ReadsTableBytes}
 use Rattle.html_c.specs.declared.fault.CallFault.TheVariants as fault
-use Rattle.html_c.specs.declared.table.Form.TheVariants as form
+use Rattle.html_c.specs.Table.{Json}
 use Rattle.html_c.proofs.Outcomes.{passed}
 use Rattle.html_c.proofs.Tables.{json_refused, table_is}
 use Rattle.html_c.proofs.table.json_table.Goals as goal
@@ -14,4 +14,4 @@ returns-in_err-read-in-Ok c =
 pub returns-in_ok-read-in-Ok : goal.returns-in_ok-read-in-Ok
 returns-in_ok-read-in-Ok c =
     let table = c.in_ok-read-in-Ok.field-0 in
-    table_is c.args.bytes.now table form.Json c.requires (subst (λ t. table_of_json t ≡ Ok table) c.in-Ok.ensures.cases.0 c.in_ok-read-in-Ok.ensures.ok)
+    table_is c.args.bytes.now table Json c.requires (subst (λ t. table_of_json t ≡ Ok table) c.in-Ok.ensures.cases.0 c.in_ok-read-in-Ok.ensures.ok)

@@ -1,8 +1,7 @@
-use Rattle.html_c.proofs.Names.{sym, ◌∙◌}
-use Rattle.html_c.specs.declared.table.Form.TheVariants as form
+use Rattle.html_c.proofs.Names.{rules}
+use Rattle.html_c.specs.Table.{Core}
 use Rattle.html_c.proofs.Tables.{table_is}
 use Rattle.html_c.proofs.table.table_of.Goals as goal
 
-pub returns-in_ok-core-in-Core : goal.returns-in_ok-core-in-Core
-returns-in_ok-core-in-Core c =
-    table_is c.args.bytes.now c.in_ok-core-in-Core.field-0 form.Core (sym c.form_of.ensures ∙ c.in-Core.is) c.in_ok-core-in-Core.ensures.ok
+pub returns-in_ok-core-in-None : goal.returns-in_ok-core-in-None
+returns-in_ok-core-in-None c = table_is c.args.bytes.now c.in_ok-core-in-None.field-0 Core (search rules) c.in_ok-core-in-None.ensures.ok

@@ -3,11 +3,11 @@ use contract.Running.{tables_of}
 use mathlib.Core.Path.{refl}
 use mathlib.Core.List.{[], ◌∷◌}
 use prog.Memory.{Memory}
-use Rattle.html_c.specs.contracts.history.History.new.Key.{name as key}
-use Rattle.html_c.specs.contracts.history.History.new as f
-use Rattle.html_c.proofs.history.History.new.Statement as stated
-use Rattle.html_c.proofs.history.History.new.Code as code
-use Rattle.html_c.specs.contracts.history.History as made
+use Rattle.html_c.specs.contracts.fitted.History.new.Key.{name as key}
+use Rattle.html_c.specs.contracts.fitted.History.new as f
+use Rattle.html_c.proofs.fitted.History.new.Statement as stated
+use Rattle.html_c.proofs.fitted.History.new.Code as code
+use Rattle.html_c.specs.contracts.fitted.History as made
 
 abbrev stayed : Stays (f.ended).signature.params (f.ended).kept
 stayed = tt

@@ -16,11 +16,11 @@ use denote.Signature.{plain, types_at}
 use denote.Triple.Entry.{Args}
 use denote.Triple.Walked.{stay_none_ref, stay_none_slice, Goes-none_ref, Goes-none_slice}
 use Rattle.std.proofs.Common.{◌^◌}
-use Rattle.html_c.specs.contracts.history.History.with.Key.{name as key}
-use Rattle.html_c.specs.contracts.history.History.with as f
-use Rattle.html_c.proofs.history.History.with.Statement as stated
-use Rattle.html_c.proofs.history.History.with.Code as code
-use Rattle.html_c.specs.contracts.history.History as history
+use Rattle.html_c.specs.contracts.fitted.History.with.Key.{name as key}
+use Rattle.html_c.specs.contracts.fitted.History.with as f
+use Rattle.html_c.proofs.fitted.History.with.Statement as stated
+use Rattle.html_c.proofs.fitted.History.with.Code as code
+use Rattle.html_c.specs.contracts.fitted.History as history
 
 abbrev stayed : Stays (f.ended).signature.params (f.ended).kept
 stayed = (stay_none_ref (0 ∷ []) tt (plain (λ _. history.the_row)) yes, (stay_none_slice (1 ∷ []) tt (plain (λ _. u8)) yes, tt))
