@@ -28,24 +28,17 @@ beginning_after old mid new first bytes appended (done, rest, split, left, more)
 pub WritesAll-nil : (old : Option (List ℕ)) (before : ℕ) → WritesAll old before old before [] (Ok tt)
 WritesAll-nil old before = (Appends-nil old, refl)
 
-then_all : (old mid new : Option (List ℕ)) (before between after : ℕ) (first bytes : List ℕ) (r : Result (Unit {0}) Refusal)
-    → WritesAll old before mid between first (Ok tt) → WritesAll mid between new after bytes r → WritesAll old before new after (first ++ bytes) r
-then_all old mid new before between after first bytes (Ok _) (appended, same) (more, still) = (Appends-trans old mid new first bytes appended more, still ∙ same)
-then_all old mid new before between after first bytes (Err refusal) (appended, same) (cause, beginning, count) =
-    (cause, beginning_after old mid new first bytes appended beginning, count ∙ ap counted same)
-
 -- the first bytes were written, and then come the others
 pub WritesAll-then : (old mid new : Option (List ℕ)) (before between after : ℕ) (first bytes line : List ℕ) (r : Result (Unit {0}) Refusal) → first ++ bytes ≡ line
     → WritesAll old before mid between first (Ok tt) → WritesAll mid between new after bytes r → WritesAll old before new after line r
-WritesAll-then old mid new before between after first bytes line r whole h k =
-    subst (λ l. WritesAll old before new after l r) whole (then_all old mid new before between after first bytes r h k)
-
-stops : (old new : Option (List ℕ)) (before after : ℕ) (bytes more : List ℕ) (e : Refusal) (r : Result (Unit {0}) Refusal) → IsErrAnd r (λ y. y ≡ e)
-    → WritesAll old before new after bytes (Err e) → WritesAll old before new after (bytes ++ more) r
-stops old new before after bytes more e (Ok _) is h = absurd is
-stops old new before after bytes more e (Err y) is (cause, beginning, count) = (is ∙ cause, beginning_more old new bytes more beginning, count)
+WritesAll-then old mid new before between after first bytes line (Ok _) whole (appended, same) (more, still) =
+    (subst (Appends old new) whole (Appends-trans old mid new first bytes appended more), still ∙ same)
+WritesAll-then old mid new before between after first bytes line (Err refusal) whole (appended, same) (cause, beginning, count) =
+    (cause, subst (AppendsBeginning old new) whole (beginning_after old mid new first bytes appended beginning), count ∙ ap counted same)
 
 -- a call failed, and what was to come after it was not written
 pub WritesAll-stops : (old new : Option (List ℕ)) (before after : ℕ) (bytes more line : List ℕ) (e : Refusal) (r : Result (Unit {0}) Refusal) → bytes ++ more ≡ line
     → IsErrAnd r (λ y. y ≡ e) → WritesAll old before new after bytes (Err e) → WritesAll old before new after line r
-WritesAll-stops old new before after bytes more line e r whole is h = subst (λ l. WritesAll old before new after l r) whole (stops old new before after bytes more e r is h)
+WritesAll-stops old new before after bytes more line e (Ok _) whole is h = absurd is
+WritesAll-stops old new before after bytes more line e (Err y) whole is (cause, beginning, count) =
+    (is ∙ cause, subst (AppendsBeginning old new) whole (beginning_more old new bytes more beginning), count)
