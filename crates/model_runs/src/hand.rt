@@ -1,5 +1,7 @@
 //! What each call has at hand: a tree and names.
 
+ghost use Rattle.std.specs.Prelude.{◌≡◌};
+
 use hnodes::{NodeId, Tree};
 use hopen::Open;
 use names::{Attr, Keys, NameId, Names};
@@ -34,43 +36,38 @@ impl Hand {
     /// The node and the name of two numbers.
     pub fn open(&mut self, node: usize, number: usize) -> Result<Open, AllocError> {
         let node = self.node(node);
-        let name = name(&mut self.names, self.alloc, number)?;
+        let name = self.name(number)?;
         Ok(Open { node, name })
     }
-}
 
-/// The name of a number: html, or one that no rule knows.
-pub fn name(names: &mut Names, alloc: Global, number: usize) -> Result<NameId, AllocError> {
-    if number == 0 {
-        return names.intern(alloc, "html");
+    /// The name of a number: html, or one that no rule knows.
+    pub fn name(&mut self, number: usize) -> Result<NameId, AllocError>
+        ensures { self.new.tree ≡ self.old.tree }
+    {
+        if number == 0 {
+            return self.names.intern(self.alloc, "html");
+        }
+        let text = format!(in self.alloc; "name{number}")?;
+        self.names.intern(self.alloc, &text)
     }
-    names.intern(alloc, &format!(in alloc; "name{number}")?)
-}
 
-/// The attribute with the name of a number, and a number for its value.
-pub fn attr(
-    names: &mut Names,
-    alloc: Global,
-    number: usize,
-    value: usize,
-) -> Result<Attr, AllocError> {
-    let name = name(names, alloc, number)?;
-    let value = format!(in alloc; "{value}")?;
-    Attr::new(name, &value, alloc)
-}
-
-/// So many attributes, in one order or, every other time, in the other.
-pub fn attrs(
-    names: &mut Names,
-    alloc: Global,
-    width: usize,
-    turn: usize,
-) -> Result<Vec<Attr>, AllocError> {
-    let mut attrs = Vec::new(alloc);
-    for number in 0..width {
-        let back = width - 1 - number;
-        let number = if turn % 2 == 0 { number } else { back };
-        attrs.push(attr(names, alloc, number, 0)?)?;
+    /// The attribute with the name of a number, and a number for its value.
+    pub fn attr(&mut self, number: usize, value: usize) -> Result<Attr, AllocError>
+        ensures { self.new.tree ≡ self.old.tree }
+    {
+        let name = self.name(number)?;
+        let value = format!(in self.alloc; "{value}")?;
+        Attr::new(name, &value, self.alloc)
     }
-    Ok(attrs)
+
+    /// So many attributes, in one order or, every other time, in the other.
+    pub fn attrs(&mut self, width: usize, turn: usize) -> Result<Vec<Attr>, AllocError> {
+        let mut attrs = Vec::new(self.alloc);
+        for number in 0..width {
+            let back = width - 1 - number;
+            let number = if turn % 2 == 0 { number } else { back };
+            attrs.push(self.attr(number, 0)?)?;
+        }
+        Ok(attrs)
+    }
 }

@@ -1,6 +1,6 @@
 //! Calls of the list of active formatting elements.
 
-use crate::hand::{Hand, attr, attrs};
+use crate::hand::Hand;
 use crate::words::{number, word};
 use hnodes::Attributes;
 use hopen::{Formatting, Open};
@@ -33,7 +33,7 @@ fn push(list: &mut Formatting, hand: &mut Hand, line: &str, turn: usize) -> Resu
     let Open { node, name } = hand.open(turn, if named { turn } else { 0 })?;
     let attrs = match word(line, 1) {
         "alike" => alike(hand, turn)?,
-        "wide" => attrs(&mut hand.names, hand.alloc, number(line, 3), turn)?,
+        "wide" => hand.attrs(number(line, 3), turn)?,
         _ => Vec::new(hand.alloc),
     };
     list.push(node, name, Attributes::new(attrs, hand.alloc)?)?;
@@ -42,12 +42,9 @@ fn push(list: &mut Formatting, hand: &mut Hand, line: &str, turn: usize) -> Resu
 
 /// Two attributes: what the value of one gains from list to list the other loses. Four lists after one another are equal.
 fn alike(hand: &mut Hand, turn: usize) -> Result<Vec<Attr>, AllocError> {
-    let (names, alloc) = (&mut hand.names, hand.alloc);
-    let up = attr(names, alloc, 1, turn / 4)?;
-    let down = attr(names, alloc, 2, 999_999usize.saturating_sub(turn / 4))?;
-    let mut attrs = Vec::new(alloc);
-    attrs.push(up)?;
-    attrs.push(down)?;
+    let mut attrs = Vec::new(hand.alloc);
+    attrs.push(hand.attr(1, turn / 4)?)?;
+    attrs.push(hand.attr(2, 999_999usize.saturating_sub(turn / 4))?)?;
     Ok(attrs)
 }
 

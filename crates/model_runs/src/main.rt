@@ -78,23 +78,18 @@ impl Structures {
         Ok(())
     }
 
-    /// Makes a call as often as a line says. How often all was as it should be after it.
+    /// Makes a call as often as a line says, and again where memory was refused: the call that failed has changed nothing. How often all
+    /// was as it should be after it.
     fn calls(&mut self, line: &str) -> Result<usize, Refusal> {
         let mut right = 0usize;
         for turn in 0..number(line, 2) {
-            if self.call_again(line, turn)? {
-                right = right.saturating_add(1);
-            }
+            let answer = match self.call(line, turn) {
+                Err(Refusal::Memory) => self.call(line, turn),
+                answer => answer,
+            };
+            right = right.saturating_add(usize::from(answer?));
         }
         Ok(right)
-    }
-
-    /// Makes a call, and makes it again where memory was refused: the call that failed has changed nothing.
-    fn call_again(&mut self, line: &str, turn: usize) -> Result<bool, Refusal> {
-        match self.call(line, turn) {
-            Err(Refusal::Memory) => self.call(line, turn),
-            answer => answer,
-        }
     }
 
     /// Makes a call. Whether all is as it should be after it.
@@ -115,7 +110,7 @@ impl Structures {
         match word(line, 0) {
             "table" => self.table = made::table(alloc, number(line, 3))?,
             "quirks" => self.quirks = made::quirks(alloc, number(line, 3))?,
-            "key" => return made::is_longest(alloc, &self.table, turn),
+            "key" => return made::has_key(alloc, &self.table, turn),
             "page" => return page::is_so(alloc, &self.table, &self.quirks, line),
             "tokens" => {
                 return page::has_tokens(alloc, &self.table, &self.quirks, after(line, 3));

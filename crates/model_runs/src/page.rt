@@ -6,15 +6,14 @@ use hwrite::{
 };
 use std::alloc::Global;
 
-/// Whether a page of a part that stands so many times has so many nodes, and so many parse errors.
+/// Whether a page of a part that stands so many times has so many nodes, and so many parse errors, which are listed where there are some.
 pub fn is_so(alloc: Global, table: &Table, quirks: &Quirks, line: &str) -> Result<bool, Refusal> {
     let options = Options::new(table, quirks, Keys::for_tests());
     let page = repeated(alloc, &options, number(line, 3), after(line, 6))?;
     let (nodes, errors) = (page.tree.made() as usize, page.errors.len());
     let lines = error_lines(alloc, &page.errors);
     drop(page);
-    let is_empty = lines?.is_empty();
-    Ok(nodes == number(line, 4) && errors == number(line, 5) && is_empty == (errors == 0))
+    Ok(nodes == number(line, 4) && errors == number(line, 5) && lines?.is_empty() == (errors == 0))
 }
 
 fn repeated(

@@ -2,12 +2,11 @@
 
 ghost use Rattle.std.specs.Prelude.{◌<◌};
 
-use crate::hand::{Hand, PLACE, attr, attrs, name};
+use crate::hand::{Hand, PLACE};
 use crate::words::{number, word};
 use hnodes::{DocumentType, NodeId, Place, Tree};
 use hwrite::{Escaping, serialize_to_vec, tree_text};
 use names::Refusal;
-use std::alloc::{AllocError, Global};
 
 /// Makes a call.
 pub fn call(hand: &mut Hand, line: &str, turn: usize) -> Result<bool, Refusal> {
@@ -37,23 +36,21 @@ fn grow(hand: &mut Hand, parent: usize) -> Result<bool, Refusal> {
 
 /// Makes an element with so many attributes.
 fn make_wide(hand: &mut Hand, width: usize) -> Result<(), Refusal> {
-    let name = name(&mut hand.names, hand.alloc, width)?;
-    let attrs = attrs(&mut hand.names, hand.alloc, width, 0)?;
+    let name = hand.name(width)?;
+    let attrs = hand.attrs(width, 0)?;
     hand.tree.create_element(name, attrs, PLACE)?;
     Ok(())
 }
 
 fn make_doctype(hand: &mut Hand) -> Result<(), Refusal> {
-    hand.tree.create_doctype(doctype(hand.alloc)?, PLACE)?;
-    Ok(())
-}
-
-fn doctype(alloc: Global) -> Result<DocumentType, AllocError> {
-    Ok(DocumentType {
+    let alloc = hand.alloc;
+    let doctype = DocumentType {
         name: String::from_str(alloc, "html")?,
         public_id: String::from_str(alloc, "public")?,
         system_id: String::from_str(alloc, "system")?,
-    })
+    };
+    hand.tree.create_doctype(doctype, PLACE)?;
+    Ok(())
 }
 
 /// Moves a node, or the children of one. Whether there are such nodes, and it may be.
@@ -101,7 +98,7 @@ fn call_of_node(hand: &mut Hand, call: &str, turn: usize) -> Result<bool, Refusa
 fn add_attr(hand: &mut Hand, node: NodeId, turn: usize) -> Result<(), Refusal>
     requires { node < hand.old.tree.made }
 {
-    let attr = attr(&mut hand.names, hand.alloc, turn, 1)?;
+    let attr = hand.attr(turn, 1)?;
     hand.tree.add_attr(node, attr)
 }
 
@@ -109,7 +106,7 @@ fn add_attr(hand: &mut Hand, node: NodeId, turn: usize) -> Result<(), Refusal>
 fn add_missing(hand: &mut Hand, node: NodeId, turn: usize) -> Result<bool, Refusal>
     requires { node < hand.old.tree.made }
 {
-    let attr = attr(&mut hand.names, hand.alloc, turn, 1)?;
+    let attr = hand.attr(turn, 1)?;
     hand.tree.add_missing_attr(node, attr)?;
     let attrs = hand.tree.attrs(node);
     Ok(attrs.is_some_and(|attrs| turn < attrs.len()))
