@@ -2,7 +2,7 @@
 use Rattle.std.specs.Prelude.{List, ℕ, ◌++◌, option_map}
 use Rattle.std.specs.List.{flat_map}
 use Rattle.names.specs.RefusalText.{number_text}
-use Rattle.htmlp.specs.declared.message.Message.{Message}
+use Rattle.htmlp.specs.declared.fault.Message.{Message}
 
 -- its words, one after another, and its number
 abbrev pub message_text : Message → List ℕ

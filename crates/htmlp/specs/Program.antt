@@ -26,7 +26,7 @@ use Rattle.htmlp.specs.declared.fault.Fault.TheVariants as fault
 use Rattle.htmlp.specs.Ending.{ending_text, exit_status}
 use Rattle.htmlp.specs.Fault.{IsLimitFault, IsRefusalOf, IsUnread}
 use Rattle.htmlp.specs.Line.{program, task_of, option_value, asks_explanation, asks_version, escaping_of, number_or, bad_bytes_of, AreGood, FaultOf}
-use Rattle.htmlp.specs.declared.version.TheConstants.{VERSION}
+use Rattle.htmlp.specs.declared.program.TheConstants.{VERSION}
 
 -- what a run of the engine, over what has this name, is for the program
 abbrev pub IsOutcome : Option Text → Result (Unit {0}) Refusal → Result (Unit {0}) Fault → Type 0

@@ -176,17 +176,11 @@ fn bare_command<'a>(alloc: Global, entry: &CommandEntry) -> Result<Command<'a>, 
     Command::new(alloc, entry.name)
         .about(entry.about)
         .after_help(entry.example)
-        .arg(file(alloc))
-}
-
-/// The file of a command.
-fn file<'a>(alloc: Global) -> Arg<'a>
-    ensures rule { rule_of result ≡ file_rule }
-    ensures local { result.global ≡ false }
-{
-    Arg::new(alloc, "file")
-        .value_name("FILE")
-        .help("The input [default: standard input]")
+        .arg(
+            Arg::new(alloc, "file")
+                .value_name("FILE")
+                .help("The input [default: standard input]"),
+        )
 }
 
 /// The options of a command by what it reads, and whether they are required: that which names a fragment's context, and that of escaping.

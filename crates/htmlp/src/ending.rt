@@ -1,12 +1,10 @@
 //! How the program ends: its status, and its lines on standard error.
 
-ghost use Rattle.std.specs.Prelude.{◌≡◌, ◌∷◌, ◌++◌, [], IfSome, option_map};
-ghost use Rattle.htmlp.specs.Vocabulary.{EndsWith, WritesAll, ending_text, fault_status, fault_text, ending_line, message_text, exit_status};
+ghost use Rattle.std.specs.Prelude.{◌≡◌, ◌∷◌, ◌++◌, [], IfSome};
+ghost use Rattle.htmlp.specs.Vocabulary.{EndsWith, WritesAll, ending_text, fault_status, fault_text, message_text, exit_status};
 
-use crate::fault::Fault;
-use crate::message::Message;
-use crate::parts::write_parts;
-use crate::tip::WithoutTip;
+use crate::fault::{Fault, Message};
+use crate::parts::{WithoutTip, write_parts};
 use hwrite::Target;
 use itoa::Buffer;
 use names::Refusal;
@@ -52,22 +50,11 @@ fn write_fault<W: Target>(target: &mut W, fault: &Fault, explains: bool) -> Resu
     ensures { IfSome (fault_text explains fault.now) (λ text.
         WritesAll (W.written target.old) (W.failed target.old) (W.written target.new) (W.failed target.new) text result) }
 {
-    match fault {
-        Fault::Line(_) => write!(WithoutTip(target), "{fault}").or(Err(Refusal::Write)),
-        _ => write_lines(target, fault.line(), fault.explanation(explains)),
+    if let Fault::Line(_) = fault {
+        return write!(WithoutTip(target), "{fault}").or(Err(Refusal::Write));
     }
-}
-
-fn write_lines<W: Target>(
-    target: &mut W,
-    line: Message,
-    explanation: Option<Message>,
-) -> Result<(), Refusal>
-    ensures { WritesAll (W.written target.old) (W.failed target.old) (W.written target.new) (W.failed target.new)
-        ((message_text line.entry ++ 10 ∷ []) ++ ending_line (option_map message_text explanation.entry)) result }
-{
-    write_line(target, line)?;
-    match explanation {
+    write_line(target, fault.line())?;
+    match fault.explanation(explains) {
         Some(line) => write_line(target, line),
         None => Ok(()),
     }

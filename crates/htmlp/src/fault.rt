@@ -1,15 +1,16 @@
 //! Why the program ends without an answer, and what it says then.
 
-ghost use Rattle.std.specs.Prelude.{◌≡◌, ◌++◌, IfSome, None, codes, option_map};
+ghost use Rattle.std.specs.Prelude.{◌≡◌, ◌∷◌, ◌++◌, [], IfSome, None, Some, codes, option_map};
+ghost use Rattle.std.specs.List.{concat};
 ghost use Rattle.htmlp.specs.Vocabulary.{around_name, detail_text, explained, fault_line, message_text, name_line, numeric_name, number_line, number_text, range_text, refusal_line};
 ghost use Rattle.htmlp.specs.Fault.{fault_of_error};
 ghost use Rattle.htmlp.specs.declared.fault.Fault.TheVariants as fault;
 
-use crate::message::Message;
 use crate::numeric::Numeric;
 use clap::error::ErrorKind;
 use names::Refusal;
 use std::alloc::AllocError;
+use std::fmt;
 use thiserror::Error;
 
 /// Why the program ends without an answer. It is displayed as its line on standard error: what a derive writes has no contract, so it
@@ -184,6 +185,40 @@ impl From<Refusal> for Fault<'_> {
         Fault::Refused {
             refusal,
             name: None,
+        }
+    }
+}
+
+/// A line without its end: words, one after another, and a number after the word that says what it counts, if there is one.
+#[derive(Clone, Copy)]
+pub struct Message<'a> {
+    pub words: [&'a str; 7],
+    pub number: Option<(&'a str, u64)>,
+}
+
+impl<'a> Message<'a> {
+    /// A line of these words.
+    pub fn of(first: &'a str, second: &'a str, third: &'a str, fourth: &'a str) -> Message<'a>
+        ensures { message_text result ≡ concat (first.now ∷ second.now ∷ third.now ∷ fourth.now ∷ []) }
+    {
+        let words = [first, second, third, fourth, "", "", ""];
+        Message {
+            words,
+            number: None,
+        }
+    }
+}
+
+impl fmt::Display for Message<'_> {
+    ghost output = { λ message. Some (message_text message) };
+
+    fn fmt<W: fmt::Write>(&self, f: &mut fmt::Formatter<W>) -> fmt::Result {
+        for word in &self.words {
+            f.write_str(word)?;
+        }
+        match self.number {
+            Some((word, number)) => write!(f, " {word} {number}"),
+            None => Ok(()),
         }
     }
 }

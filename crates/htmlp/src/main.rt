@@ -7,14 +7,11 @@ mod ending;
 mod fault;
 mod host;
 mod line;
-mod message;
 mod numeric;
 mod parts;
 mod program;
 mod said;
 mod surroundings;
-mod tip;
-mod version;
 
 use crate::host::start;
 use std::process::ExitCode;

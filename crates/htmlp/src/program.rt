@@ -1,7 +1,7 @@
 //! The program: does what the words of its command line say.
 
 ghost use Rattle.std.specs.Prelude.{◌≡◌, ◌<◌, ◌⊎◌, List, map, option_map, MatchResult, Ok, Err, string_bytes};
-ghost use Rattle.htmlp.specs.Vocabulary.{Text, AreLimits, Bounds, IsLimitFault, task_of, option_value, SaysLine, range_of, IsInRange, AnswersInput, AnswersWords, ProgramAnswers, EndsProgram, IsExplained, FindsQuirks, FindsTable, told_of};
+ghost use Rattle.htmlp.specs.Vocabulary.{Text, AreLimits, Bounds, IsLimitFault, task_of, option_value, SaysLine, range_of, IsInRange, AnswersInput, AnswersWords, ProgramAnswers, EndsProgram, IsExplained, FindsQuirks, FindsTable, WritesVersion, asks_version, told_of};
 
 use crate::ending::ending;
 use crate::fault::Fault;
@@ -9,18 +9,20 @@ use crate::line::{asks_explanation, line};
 use crate::numeric::Numeric;
 use crate::said::Line;
 use crate::surroundings::Surroundings;
-use crate::version::{asks_version, write_version};
 use charref::Table;
 use hmarkup::Quirks;
 use hmodes::Limits;
 use hparse::{Options, Source};
 use htext::MAX_INPUT;
-use hwrite::{Command, Target, check_context, run};
+use hwrite::{Command, Target, check_context, run, write_text};
 use names::{Keys, Refusal};
 use std::alloc::Global;
 
 /// What the standard input is called.
 const STANDARD_INPUT: &str = "standard input";
+
+/// What `htmlp --version` writes.
+pub const VERSION: &[u8] = b"htmlp 0.1.0\n";
 
 /// Does what the words of the command line say, writes the lines that say why there is no answer, if there is none, and
 /// returns the status of the program.
@@ -67,6 +69,24 @@ fn answer<'a, R: Surroundings, S: Source, W: Target>(
     }
     let line = line(surroundings.alloc(), words)?;
     answer_line(surroundings, keys, line, input, output)
+}
+
+/// Whether the words are `--version` or `-V` alone, after the program's own name.
+fn asks_version(words: &[String]) -> bool
+    ensures { result ≡ asks_version (map string_bytes words.now) }
+{
+    match words {
+        [_, word] => word.as_str() == "--version" || word.as_str() == "-V",
+        _ => false,
+    }
+}
+
+/// Writes the version.
+fn write_version<'a, W: Target>(output: &mut W) -> Result<(), Fault<'a>>
+    ensures { WritesVersion W.written W.failed output.old output.new result }
+{
+    write_text(output, VERSION)?;
+    Ok(())
 }
 
 /// Does what a line says, which is what any words that it is of say.

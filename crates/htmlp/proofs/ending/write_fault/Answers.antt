@@ -1,4 +1,5 @@
-use Rattle.htmlp.proofs.Names.{◌≡◌, List, ℕ, [], ◌∷◌, ◌++◌, Option, None, Some, ap₂, option_map, subst, IfSome, WritesAll}
+use Rattle.htmlp.proofs.Names.{◌≡◌, List, ℕ, [], ◌∷◌, ◌++◌, Option, None, Some, Ok, ap, ap₂, option_map, refl, subst, sym, IfSome, WritesAll, WritesAll-stops, WritesAll-then}
+use Rattle.hwrite.proofs.CallLemmas.{WritesAll-nil}
 use Rattle.htmlp.specs.Ending.{explained, fault_line, ending_line}
 use Rattle.htmlp.specs.Message.{message_text}
 use Rattle.htmlp.proofs.ending.write_fault.Goals as goal
@@ -8,8 +9,26 @@ told : (line : Option (List ℕ)) (text : List ℕ) (its more : Option (List ℕ
 told None text its more P is same h = tt
 told (Some line) text its more P is same h = subst P (ap₂ (λ l m. (l ++ 10 ∷ []) ++ ending_line m) is same) h
 
-pub returns-in_default : goal.returns-in_default
-returns-in_default g c =
-    told (fault_line c.args.fault.now) (message_text c.line.result) _ (explained c.args.explains c.args.fault.now)
-    (λ text. WritesAll (g.W.Target.written c.args.target.now) (g.W.Target.failed c.args.target.now) (g.W.Target.written c.write_lines.new.target)
-    (g.W.Target.failed c.write_lines.new.target) text c.write_lines.result) c.line.ensures c.explanation.ensures c.write_lines.ensures
+pub returns-in_err-write_line : goal.returns-in_err-write_line
+returns-in_err-write_line g c =
+    let fault = c.args.fault.now in
+    told (fault_line fault) (message_text c.line.result) _ (explained c.args.explains fault)
+    (λ text. WritesAll (g.W.Target.written c.args.target.now) (g.W.Target.failed c.args.target.now) (g.W.Target.written c.write_line.new.target) (g.W.Target.failed c.write_line.new.target) text c.from_residual.result)
+    c.line.ensures refl (WritesAll-stops _ _ _ _ (message_text c.line.result ++ 10 ∷ []) (ending_line (explained c.args.explains fault)) _ c.in_err-write_line.field-0.0
+    c.from_residual.result refl c.from_residual.ensures.1 c.in_err-write_line.ensures)
+
+pub returns-in-Some : goal.returns-in-Some
+returns-in-Some g c =
+    let fault = c.args.fault.now in
+    told (fault_line fault) (message_text c.line.result) _ (explained c.args.explains fault)
+    (λ text. WritesAll (g.W.Target.written c.args.target.now) (g.W.Target.failed c.args.target.now) (g.W.Target.written c.write_line-in-Some.new.target) (g.W.Target.failed c.write_line-in-Some.new.target) text c.write_line-in-Some.result)
+    c.line.ensures c.explanation.ensures (WritesAll-then _ _ _ _ _ _ (message_text c.line.result ++ 10 ∷ []) (message_text c.in-Some.line ++ 10 ∷ []) _ c.write_line-in-Some.result
+    (ap (λ e. (message_text c.line.result ++ 10 ∷ []) ++ ending_line (option_map message_text e)) (sym c.in-Some.is)) c.in_ok-write_line.ensures c.write_line-in-Some.ensures)
+
+pub returns-in-None : goal.returns-in-None
+returns-in-None g c =
+    let fault = c.args.fault.now in
+    told (fault_line fault) (message_text c.line.result) _ (explained c.args.explains fault)
+    (λ text. WritesAll (g.W.Target.written c.args.target.now) (g.W.Target.failed c.args.target.now) (g.W.Target.written c.write_line.new.target) (g.W.Target.failed c.write_line.new.target) text (Ok tt))
+    c.line.ensures c.explanation.ensures (WritesAll-then _ _ _ _ _ _ (message_text c.line.result ++ 10 ∷ []) [] _ (Ok tt)
+    (ap (λ e. (message_text c.line.result ++ 10 ∷ []) ++ ending_line (option_map message_text e)) (sym c.in-None.is)) c.in_ok-write_line.ensures (WritesAll-nil _ _))

@@ -1,6 +1,6 @@
 use Rattle.htmlp.proofs.Names.{Err, Ok, refl}
 use Rattle.htmlp.proofs.Outcomes.{refused}
-use Rattle.htmlp.proofs.version.write_version.Goals as goal
+use Rattle.htmlp.proofs.program.write_version.Goals as goal
 
 pub returns-in_err-write_text : goal.returns-in_err-write_text
 returns-in_err-write_text g c = record {

@@ -1,7 +1,7 @@
 use Rattle.htmlp.proofs.Names.{take}
 use Rattle.std.specs.Fmt.{HasWritten, IsPlainFormatter}
 use Rattle.htmlp.proofs.AllParts.{all_parts}
-use Rattle.htmlp.proofs.message.MessageDisplay.fmt.Given as goal
+use Rattle.htmlp.proofs.fault.MessageDisplay.fmt.Given as goal
 
 -- the words so far were written
 abbrev pub invariant-loop-word : goal.invariant-loop-word
