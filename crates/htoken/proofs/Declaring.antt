@@ -1,5 +1,5 @@
 -- What the characters after `<!` begin, and what they do not.
-use Rattle.htoken.proofs.Names.{◌≡◌, ◌≤◌, ◌<◌, ℕ, zero, suc, ◌+◌, ◌&&◌, get_or, drop, drop-cons, take, Bool, true, false, not, ◌||◌, ◌⊎◌, inl, inr, eqb, List, [], ◌∷◌, ◌++◌, map, length, sym, refl, ap, ◌∙◌, subst, arith, append_assoc, codes, to_ascii_lowercase, list_all, Placed, characters, lowered, all, place, spells_in_any_case, nat_tests, is_plain_in_bogus, and_parts, is_declaration, take-suc, spells, Opens, is_cdata, OpensNothing, OpensAs, read_as, spells_as, all-one}
+use Rattle.htoken.proofs.Names.{◌≡◌, ◌≤◌, ◌<◌, ℕ, zero, suc, ◌+◌, ◌&&◌, get_or, take, Bool, true, false, not, ◌||◌, eqb, List, [], ◌∷◌, ◌++◌, map, length, sym, refl, ap, ◌∙◌, arith, codes, to_ascii_lowercase, list_all, Placed, characters, lowered, all, place, spells_in_any_case, nat_tests, is_plain_in_bogus, and_parts, is_declaration, take-suc, spells, is_cdata, OpensNothing, OpensAs, read_as, spells_as, all-one}
 use Rattle.htoken.specs.declared.markup_declaration_open.Opens.TheVariants as opens
 
 -- A WORD at the front of a text, as each of its characters is read

@@ -5,12 +5,9 @@ use Rattle.htoken.proofs.Handing.{HandsEvents-append}
 
 -- a token stands for the same when the table of names has grown
 pub token_kept : (old new : Texts) → Grows old new → (token : Token) (tok : Tok) → TokenMeans old token tok → TokenMeans new token tok
-token_kept old new grows (code.Doctype doctype at) tok h = h
 token_kept old new grows (code.Start name attrs closing at) tok (text, texts, is, are, e) = (text, texts, text_kept old new name text grows is, attrs_kept old new grows attrs.items texts are, e)
 token_kept old new grows (code.End name at) tok (text, is, e) = (text, text_kept old new name text grows is, e)
-token_kept old new grows (code.Comment text at) tok h = h
-token_kept old new grows (code.Char ch at) tok h = h
-token_kept old new grows (code.Eof at) tok h = h
+token_kept old new grows _ tok h = h
 
 -- so does what was handed over
 handed_kept : (old new : Texts) → Grows old new → (h : Handed) (tok : Tok) → HandedMeans old h tok → HandedMeans new h tok

@@ -1,6 +1,6 @@
 -- What a tokenizer holds back is a beginning of a span.
-use Rattle.htoken.proofs.CutNames.{arith, nat_tests, ◌≡◌, ℕ, Bool, true, false, not, eqb, List, [], ◌∷◌, ◌++◌, sym, refl, ap, ◌∙◌, subst, append_assoc, append-nil, false≢true, IncorrectlyOpenedComment, ParseError, Placed, RawKind, Texts, characters, lowered, all, begins, is_letter, is_empty, place, stops, spells, spells_in_any_case, error, name_bytes, Entities, IsTable, CommentKind, IsBogus, closed_bogus, IsDoctype, parts_text, attributes_after, ends_name, tag_errors, end_tag_errors, Tok, Span, Event, Start, End, Comment, piece_span, is_declaration, comment_span, may_end, is_raw_end, IsSpanOf, has_references, raw_reference, raw_end, IsTag, start_tag, end_tag, inside, CanEnd}
-use Rattle.std.specs.Prelude.{codes, map, Some}
+use Rattle.htoken.proofs.CutNames.{arith, nat_tests, ◌≡◌, ℕ, true, false, List, [], ◌∷◌, ◌++◌, sym, refl, ap, ◌∙◌, subst, append_assoc, append-nil, IncorrectlyOpenedComment, ParseError, Placed, RawKind, Texts, characters, lowered, all, begins, is_letter, is_empty, place, stops, error, name_bytes, Entities, IsTable, CommentKind, IsBogus, closed_bogus, IsDoctype, parts_text, attributes_after, ends_name, tag_errors, end_tag_errors, Tok, Span, Event, Start, End, Comment, piece_span, is_declaration, comment_span, may_end, is_raw_end, has_references, raw_end, IsTag, start_tag, end_tag, inside, CanEnd}
+use Rattle.std.specs.Prelude.{map, Some}
 use Rattle.std.specs.String.{string_bytes}
 use Rattle.std.specs.List.{list_all}
 use Rattle.names.specs.declared.raw.RawKind.TheVariants as kind
@@ -27,10 +27,12 @@ use Rattle.htoken.specs.Tokenizing.{Reads, holds, in_ambiguous_ampersand, IsHeld
 use Rattle.htoken.proofs.Declaring.{bogus_at}
 use Rattle.htoken.proofs.Holding.{held_place}
 use Rattle.htoken.proofs.InData.{in_data}
+use Rattle.htoken.proofs.InRaw.{in_raw}
 use Rattle.htoken.proofs.RawEnds.{a_name, is_whole, letters_stay}
 use Rattle.htoken.proofs.RawNames.{is_lower, is_word, raw_word, letters_of}
 use Rattle.htoken.specs.Beginning.{IsBeginning, nothing}
 use Rattle.htoken.specs.Held.{HeldBegins}
+use Rattle.htoken.proofs.Referring.{reference_is}
 use Rattle.htoken.proofs.SomeEnd.{greater, tags_can_end}
 
 -- TAGS
@@ -176,24 +178,15 @@ module _ (table : Entities) (is_table : IsTable table) (start : RawKind) (names 
       let same = w.text_is ∙ sym (append_assoc (less t ∷ i.opening) i.body c.more) ∙ ap (λ (x : List Placed). x ++ c.more) (sym i.held_is) in
       inside c.more [] 0 w.span c.some same (i.fits 0 [] c.more w.span same w.is_tag)
 
-  referring : (k : RawKind) → h.here.kind ≡ k → has_references k ≡ true → IsInReference table h.here t h.held → Begins
-  referring kind.None e may i =
+  referring : has_references h.here.kind ≡ true → IsInReference table h.here t h.held → Begins
+  referring may i =
       let o = open_taken t.reference table i.read (record { ch = 38; at = t.at }) is_table i.has_taken refl in
-      inside o.more o.rest 0 (piece_span o.piece) o.is_more (o.text_is ∙ ap (λ (x : List Placed). x ++ o.more) (sym i.held_is)) (subst (λ (x : RawKind). IsSpanOf x table 0 h.here o.rest (piece_span o.piece)) (sym e) (d.reference o.piece o.is_reference refl))
-  referring kind.Rcdata e may i =
-      let o = open_taken t.reference table i.read (record { ch = 38; at = t.at }) is_table i.has_taken refl in
-      inside o.more o.rest 0 (piece_span o.piece) o.is_more (o.text_is ∙ ap (λ (x : List Placed). x ++ o.more) (sym i.held_is))
-      (subst (λ (x : RawKind). IsSpanOf x table 0 h.here o.rest (piece_span o.piece)) (sym e) (raw_reference o.piece (ap has_references e) o.is_reference refl))
-  referring _ e may i = absurd cc
+      inside o.more o.rest 0 (piece_span o.piece) o.is_more (o.text_is ∙ ap (λ (x : List Placed). x ++ o.more) (sym i.held_is)) (reference_is table 0 h.here o.rest o.piece may o.is_reference)
 
   -- in raw text: with what is left of the name and a `>` it is the end tag
   module _ (raw : is_raw h.here.kind ≡ true) (may : may_end h.here.kind h.here.front ≡ true) (named : h.here.name ≡ Some (string_bytes t.tag.name)) where
     word : is_word (string_bytes t.tag.name) ≡ true
     word = let s = h.stands 0 [] in raw_word start s.spans h.here (string_bytes t.tag.name) s.leads named raw
-
-    end_span : (k : RawKind) → h.here.kind ≡ k → is_raw k ≡ true → (span : Span) → is_raw_end h.here (span.text ++ []) ≡ true → IsTag table 0 [] span → IsSpanOf k table 0 h.here [] span
-    end_span kind.None e r span ends is_tag = absurd cc
-    end_span _ e r span ends is_tag = raw_end ends is_tag
 
     raw_ends : (at : ℕ) (held letters : List Placed) (left : List ℕ) (more : List Placed) → h.held ≡ held → is_empty more ≡ false → held ++ more ≡ less t ∷ solidus at ∷ (letters ++ (as_placed left ++ greater ∷ []))
         → all is_letter letters ≡ true → lowered letters ++ left ≡ string_bytes t.tag.name → Begins
@@ -207,8 +200,8 @@ module _ (table : Entities) (is_table : IsTable table) (start : RawKind) (names 
         a_name h.here (string_bytes t.tag.name) named (less t) refl at ((letters ++ as_placed left) ++ greater ∷ []) may
         (subst (λ (name : List ℕ). name_ends name ((letters ++ as_placed left) ++ greater ∷ []) ≡ true) name_is (is_whole (letters ++ as_placed left) greater [] refl)) in
         inside more [] 0 w.span some (text ∙ sym whole ∙ ap (λ (x : List Placed). x ++ more) (sym held_is))
-        (end_span h.here.kind refl raw w.span
-        (ap (is_raw_end h.here) (append-nil w.span.text ∙ text ∙ ap (λ (x : List Placed). less t ∷ solidus at ∷ x) (sym (append_assoc letters (as_placed left) (greater ∷ [])))) ∙ ends) w.is_tag)
+        (in_raw table 0 h.here [] w.span raw (raw_end
+        (ap (is_raw_end h.here) (append-nil w.span.text ∙ text ∙ ap (λ (x : List Placed). less t ∷ solidus at ∷ x) (sym (append_assoc letters (as_placed left) (greater ∷ [])))) ∙ ends) w.is_tag))
 
   by_state : (s : State) → IsStateOf s h.here.kind → IsHeld s table names h.here t h.held [] → Begins
   by_state state.Text is_in has = nothing has.0
@@ -218,7 +211,7 @@ module _ (table : Entities) (is_table : IsTable table) (start : RawKind) (names 
   by_state state.Comment is_in (which, i) = in_comment which i is_in
   by_state state.Doctype is_in has = in_doctype has is_in
   by_state state.Tag is_in has = in_tag has
-  by_state state.Reference is_in has = referring h.here.kind refl is_in has
+  by_state state.Reference is_in has = referring is_in has
   by_state (state.AmbiguousAmpersand amp) is_in has = absurd has
   by_state state.RcdataLessThanSign is_in has =
       raw_ends is_in has.may has.named 0 (less t ∷ []) [] (string_bytes t.tag.name) (solidus 0 ∷ (as_placed (string_bytes t.tag.name) ++ greater ∷ [])) has.held_is refl refl refl refl

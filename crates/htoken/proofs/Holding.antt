@@ -3,10 +3,6 @@ use Rattle.htoken.proofs.Names.{◌≡◌, ℕ, List, [], sym, refl, ap, ◌∙�
 use Rattle.htoken.specs.declared.state.State.TheVariants as state
 
 pub held_place : (s : State) (table : Entities) (names : Texts) (here : Standing) (t : Tokenizer) (held : List Placed) → IsHeld s table names here t held [] → from_of s t ≡ place t.next held
-held_place state.Text table names here t held h = ap (place t.next) (sym h.0)
-held_place state.TagOpen table names here t held h = ap (place t.next) (sym h.0)
-held_place (state.EndTagOpen at) table names here t held h = ap (place t.next) (sym h.0)
-held_place (state.MarkupDeclarationOpen at) table names here t held h = ap (place t.next) (sym h.0)
 held_place state.Comment table names here t held (kind, h) = ap (place t.next) (sym h.starts)
 held_place state.Doctype table names here t held h = ap (place t.next) (sym h.starts)
 held_place state.Tag table names here t held h = ap (place t.next) (sym h.held_is)
@@ -14,20 +10,13 @@ held_place state.Reference table names here t held h = ap (place t.next) (sym h.
 held_place (state.AmbiguousAmpersand amp) table names here t held h = absurd h
 held_place state.RcdataLessThanSign table names here t held h = ap (place t.next) (sym h.held_is)
 held_place (state.RcdataEndTagName at) table names here t held h = ap (place t.next) (sym h.held_is)
+held_place _ table names here t held h = ap (place t.next) (sym h.0)
 
 -- where something is held, its place is kept
 pub from_held : (s : State) (t : Tokenizer) → (s ≡ state.Text → ⊥) → ((amp : ℕ) → s ≡ state.AmbiguousAmpersand amp → ⊥) → t.at ≡ from_of s t
 from_held state.Text t text run = absurd (text refl)
-from_held state.TagOpen t text run = refl
-from_held (state.EndTagOpen at) t text run = refl
-from_held (state.MarkupDeclarationOpen at) t text run = refl
-from_held state.Comment t text run = refl
-from_held state.Doctype t text run = refl
-from_held state.Tag t text run = refl
-from_held state.Reference t text run = refl
 from_held (state.AmbiguousAmpersand amp) t text run = absurd (run amp refl)
-from_held state.RcdataLessThanSign t text run = refl
-from_held (state.RcdataEndTagName at) t text run = refl
+from_held _ t text run = refl
 
 pub holds_from : (table : Entities) (start : RawKind) (t : Tokenizer) (names : Texts) (text : List Placed) (taken : List Event) → HasTaken table start t names text taken → HoldsFrom table start text taken (from_of t.state t)
 holds_from table start t names text taken (holds h) = record {

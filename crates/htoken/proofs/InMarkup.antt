@@ -1,7 +1,8 @@
 -- A character of a comment or a doctype, and the input's end in it.
 use Rattle.htoken.proofs.Names.{◌≡◌, ℕ, Bool, true, false, List, [], ◌∷◌, ◌++◌, sym, refl, ap, ◌∙◌, subst, Result, Ok, Err, Option, append_assoc, append-nil, ParseError, Placed, RawKind, Refusal, Memory, Texts, Hands, Entities, WalkEnds, Raised, State, Tokenizer, Tok, Span, Item, Event, gives_item, Standing, next, has_refused, IsDataSpan, Reads, Takes, IsHeld, IsStateOf, IsLast, IsInMarkup, EndsHeld, held_ran_out, held_ended, Keeps, GivesSpan, EndsDoctype, doctype_ran_out, doctype_given, doctype_token, WalkTakes, walk_ran_out, sink_refused, walk_goes_on, walk_ended, raises, Handed, HandedMeans}
+use Rattle.htoken.proofs.Reading.{ran_out_of}
 use Rattle.names.specs.declared.raw.RawKind.TheVariants as kind
-use Rattle.htoken.proofs.Going.{stays_both, ran_out, goes_on, span_ends}
+use Rattle.htoken.proofs.Going.{stays_both, goes_on, spans_end}
 use Rattle.htoken.proofs.Handing.{span_given}
 use Rattle.htoken.proofs.InData.{in_data, between_data}
 use Rattle.htoken.proofs.AtEnd.{no_script, stands_at_end}
@@ -51,31 +52,28 @@ module _ {S W V : Type 0} (gives : S → ParseError → Result (Unit {0}) Refusa
     Took answer new value raised = WalkTakes keeps HasRead IsOne i.body i.own p t.raised answer new value raised
 
     pub markup_stopped : (r : Refusal) (new : W) (value : V) (raised : Raised) (s : S) (last : Tokenizer) → Took (Err r) new value raised → Takes (gives_item gives gives_token) table start text (p ∷ []) taken names s (Err r) s last
-    markup_stopped r new value raised s last (walk_ran_out reported e hd b) = ran_out (gives_item gives gives_token) table start text p names taken t h last s (Err r) (ap (λ (x : Refusal). Err x) cc)
-    markup_stopped r new value raised s last (sink_refused x reported e hd b) = let why : x ≡ Memory = refused t.raised raised reported x hd in ran_out (gives_item gives gives_token) table start text p names taken t h last s (Err r) (ap (λ (y : Refusal). Err y) cc)
+    markup_stopped r new value raised s last (walk_ran_out reported e hd b) = ran_out_of (gives_item gives gives_token) table start text (p ∷ []) names taken t h last s (Err r) (ap (λ (x : Refusal). Err x) cc)
+    markup_stopped r new value raised s last (sink_refused x reported e hd b) = let why : x ≡ Memory = refused t.raised raised reported x hd in ran_out_of (gives_item gives gives_token) table start text (p ∷ []) names taken t h last s (Err r) (ap (λ (y : Refusal). Err y) cc)
     markup_stopped r new value raised s last (walk_goes_on reported e hd has) = absurd cc
     markup_stopped r new value raised s last (walk_ended reported e hd is) = absurd cc
 
     pub markup_goes_on : (new : Tokenizer) (then : W) (value : V) (s : S) (in_state : State) → new.state ≡ in_state → Keeps t new → IsStateOf in_state h.here.kind
         → (IsInMarkup HasRead IsOne token then table new (h.held ++ p ∷ []) [] → IsHeld in_state table names h.here new (h.held ++ p ∷ []) [])
         → Took (Ok false) then value new.raised → Takes (gives_item gives gives_token) table start text (p ∷ []) taken names s (Ok tt) s new
+    markup_goes_on new then value s in_state same keep is_in holds (walk_goes_on reported e hd has) =
+        goes_on (gives_item gives gives_token) table start text (p ∷ []) names taken t h new s in_state same keep.stays keep.kind_is keep.last_is is_in
+        (holds (markup_more HasRead IsOne token table t h.held (p ∷ []) walk i new then reported keep.at_is (kept t.raised new.raised reported hd) has))
     markup_goes_on new then value s in_state same keep is_in holds (walk_ran_out reported e hd b) = absurd cc
     markup_goes_on new then value s in_state same keep is_in holds (sink_refused x reported e hd b) = absurd cc
     markup_goes_on new then value s in_state same keep is_in holds (walk_ended reported e hd is) = absurd cc
-    markup_goes_on new then value s in_state same keep is_in holds (walk_goes_on reported e hd has) =
-        goes_on (gives_item gives gives_token) table start text p names taken t h new s in_state same keep.stays keep.kind_is keep.last_is is_in
-        (holds (markup_more HasRead IsOne token table t h.held (p ∷ []) walk i new then reported keep.at_is (kept t.raised new.raised reported hd) has))
 
     pub markup_ends : (mid new : Tokenizer) (then : W) (value : V) (old s : S) (answer : Result (Unit {0}) Refusal) → Keeps t mid → Took (Ok true) then value mid.raised
         → GivesSpan (gives_item gives gives_token) (λ names x. HandedMeans names x (token value mid.at)) mid old answer new s → Takes (gives_item gives gives_token) table start text (p ∷ []) taken names old answer s new
-    markup_ends mid new then value old s answer keep (walk_ran_out reported e hd b) g = absurd cc
-    markup_ends mid new then value old s answer keep (sink_refused x reported e hd b) g = absurd cc
-    markup_ends mid new then value old s answer keep (walk_goes_on reported e hd has) g = absurd cc
     markup_ends mid new then value old s answer keep (walk_ended reported e hd is) g =
         let raised : mid.raised.errors.items ≡ i.first ++ (i.own ++ reported) = kept t.raised mid.raised reported hd ∙ ap (λ (x : List ParseError). x ++ reported) i.raised_is ∙ append_assoc i.first i.own reported in
         let span : Span = record { text = i.opening ++ (i.body ++ p ∷ []); tokens = token value mid.at ∷ []; errors = mid.raised.errors.items } in
         let k = given h.here span.text value mid.at span.errors in
-        span_ends (gives_item gives gives_token) table start text p names taken t h span
+        spans_end (gives_item gives gives_token) table start text (p ∷ []) names taken t h span
         (sym (ap (λ (x : List Placed). x ++ p ∷ []) i.held_is ∙ append_assoc i.opening i.body (p ∷ [])))
         (λ end more. in_data table end h.here more span here_is
         (subst (λ (x : List ParseError). IsDataSpan table end more (record { text = i.opening ++ (i.body ++ p ∷ []); tokens = token value mid.at ∷ []; errors = x })) (sym raised)
@@ -84,6 +82,9 @@ module _ {S W V : Type 0} (gives : S → ParseError → Result (Unit {0}) Refusa
         new old s answer (stays_both t mid new keep.stays g.ends.keeps.stays) (g.ends.keeps.kind_is ∙ keep.kind_is ∙ h.kind_is ∙ here_is ∙ sym k.0)
         (subst (λ (x : Option ℕ). IsLast names x (next h.here span).name) (sym (g.ends.keeps.last_is ∙ keep.last_is)) (subst (IsLast names t.last) (sym k.1) h.name_is)) g.ends.state_is g.ends.raised_is (between_data _ new k.0)
         (span_given gives gives_token names mid.raised.errors.items g.token (token value mid.at) old s answer (g.means names) g.handed)
+    markup_ends mid new then value old s answer keep (walk_ran_out reported e hd b) g = absurd cc
+    markup_ends mid new then value old s answer keep (sink_refused x reported e hd b) g = absurd cc
+    markup_ends mid new then value old s answer keep (walk_goes_on reported e hd has) g = absurd cc
 
   -- where the input ends
   module _ (end : ℕ) (h : Reads table start t names text [] taken) (here_is : h.here.kind ≡ kind.None) (walk : W) (i : IsInMarkup HasRead IsOne token walk table t h.held []) where

@@ -4,18 +4,15 @@ use Rattle.names.specs.declared.raw.RawKind.TheVariants as kind
 use Rattle.htoken.specs.declared.state.State.TheVariants as state
 use Rattle.htag.specs.declared.kind.TagKind.TheVariants as tag
 use Rattle.htoken.proofs.Cutting.{stands_more}
-use Rattle.htoken.proofs.Going.{ran_out, goes_on, span_ends}
-use Rattle.htoken.proofs.Reading.{are_front, held_in, kind_in, reads_as, reads_text}
+use Rattle.htoken.proofs.Going.{goes_on, spans_end}
+use Rattle.htoken.proofs.Reading.{are_front, held_in, kind_in, reads_as, reads_text, ran_out_of}
 use Rattle.htoken.proofs.RawNames.{is_word, raw_word, word_letter, some_held}
 use Rattle.htoken.proofs.RawEnds.{differs, goes_past, is_whole, left_some, left_none, letter_not, name_is_lowered, no_solidus, no_name, a_name, other_goes_on, nameless_goes_on, inner_goes_on}
 
 -- a span, by what is read: data, or raw text
 pub span_of : (k : RawKind) (table : Entities) (end : ℕ) (here : Standing) (rest : List Placed) (span : Span) → (is_raw k ≡ false → IsDataSpan table end rest span) → (is_raw k ≡ true → IsRawSpan table end here rest span) → IsSpanOf k table end here rest span
 span_of kind.None table end here rest span data' raw = data' refl
-span_of kind.Rcdata table end here rest span data' raw = raw refl
-span_of kind.Rawtext table end here rest span data' raw = raw refl
-span_of kind.Script table end here rest span data' raw = raw refl
-span_of kind.Plaintext table end here rest span data' raw = raw refl
+span_of _ table end here rest span data' raw = raw refl
 
 pub in_raw : (table : Entities) (end : ℕ) (here : Standing) (rest : List Placed) (span : Span) → is_raw here.kind ≡ true → IsRawSpan table end here rest span → IsSpan table end here rest span
 in_raw table end here rest span e h = span_of here.kind table end here rest span (λ other. absurd (true≢false (sym e ∙ other))) (λ raw. h)
@@ -116,7 +113,7 @@ module _ {S : Type 0} (gives : S → Item → Result (Unit {0}) Refusal → S �
         → Takes gives table start text (p ∷ []) taken names old answer s new
     raw_taken new old s answer f go plain handed =
         subst (λ (x : Tokenizer). Takes gives table start text (p ∷ []) taken names old answer s x) (sym f.then)
-        (span_ends gives table start text p names taken t h (raw_span p) (ap (λ (x : List Placed). x ++ p ∷ []) (sym nothing.0))
+        (spans_end gives table start text (p ∷ []) names taken t h (raw_span p) (ap (λ (x : List Placed). x ++ p ∷ []) (sym nothing.0))
         (λ end more. in_raw table end h.here more (raw_span p) here_is (raw_character p (go more) (subst (λ (k : RawKind). (has_references k && eqb p.ch 38) ≡ false) h.kind_is plain) refl)) refl
         (record t { script = new.script }) old s answer (refl, refl, refl) h.kind_is h.name_is in_text nothing.1 (record { named = nothing.2.named; leveled = λ r. f.follows p.at h.here.front (ap is_script h.kind_is ∙ r) (nothing.2.leveled r) }) handed)
 
@@ -133,11 +130,8 @@ module _ {S : Type 0} (gives : S → Item → Result (Unit {0}) Refusal → S �
 
     -- whether the end tag may be here
     by_kind : (k : RawKind) → (is_script k ≡ true → HasFront t.script h.here.front) → ends_by k (level_number t.script.level) ≡ may_end k h.here.front
-    by_kind kind.None l = refl
-    by_kind kind.Rcdata l = refl
-    by_kind kind.Rawtext l = refl
     by_kind kind.Script l = ap (λ (n : ℕ). nat_lt n 2) (sym (l refl).level_is)
-    by_kind kind.Plaintext l = refl
+    by_kind _ l = refl
 
     may_end_is : ends_by t.kind (level_number t.script.level) ≡ may_end h.here.kind h.here.front
     may_end_is = ap (λ (k : RawKind). ends_by k (level_number t.script.level)) h.kind_is ∙ by_kind h.here.kind nothing.2.leveled
@@ -159,7 +153,7 @@ module _ {S : Type 0} (gives : S → Item → Result (Unit {0}) Refusal → S �
     pub raw_less_begins : (new : Tokenizer) (s : S) (bytes : List ℕ) → Keeps (record t { at = p.at }) new → new.state ≡ state.RcdataLessThanSign → new.raised.errors.items ≡ t.raised.errors.items → new.tag ≡ t.tag → new.script ≡ t.script → p.ch ≡ 60
         → h.here.name ≡ Some bytes → may_end h.here.kind h.here.front ≡ true → Takes gives table start text (p ∷ []) taken names s (Ok tt) s new
     raw_less_begins new s bytes keeps less_is raised same keeps_script is named may =
-        goes_on gives table start text p names taken t h new s _ less_is keeps.stays keeps.kind_is keeps.last_is here_is (record {
+        goes_on gives table start text (p ∷ []) names taken t h new s _ less_is keeps.stays keeps.kind_is keeps.last_is here_is (record {
           held_is = ap (λ (x : List Placed). x ++ p ∷ []) nothing.0 ∙ ap (λ (c : ℕ). record { ch = c; at = p.at } ∷ []) is ∙ ap (λ (a : ℕ). record { ch = 60; at = a } ∷ []) (sym keeps.at_is);
           raises_none = raised ∙ nothing.1;
           may = may;
@@ -180,7 +174,7 @@ module _ {S : Type 0} (gives : S → Item → Result (Unit {0}) Refusal → S �
         → Takes gives table start text (p ∷ []) taken names s (Ok tt) s new
     raw_solidus_follows new s keeps then raised same keeps_script none is =
         let i = tag_open in
-        goes_on gives table start text p names taken t h new s _ then keeps.stays keeps.kind_is keeps.last_is is_raw_here (record {
+        goes_on gives table start text (p ∷ []) names taken t h new s _ then keeps.stays keeps.kind_is keeps.last_is is_raw_here (record {
           held_is = ap (λ (x : List Placed). x ++ p ∷ []) i.held_is ∙ ap (λ (c : ℕ). less t ∷ record { ch = c; at = p.at } ∷ []) is
               ∙ ap (λ (a : ℕ). record { ch = 60; at = a } ∷ record { ch = 47; at = p.at } ∷ []) (sym keeps.at_is) ∙ ap (λ (x : List Placed). less new ∷ record { ch = 47; at = p.at } ∷ x) (sym none);
           raises_none = raised ∙ i.raises_none;
@@ -225,7 +219,7 @@ module _ {S : Type 0} (gives : S → Item → Result (Unit {0}) Refusal → S �
     raw_letter_follows new s c keeps then raised same keeps_script more expected is letter =
         let i = in_name in
         let l = left_some t.held.items i.left c (ap (λ (x : List ℕ). slice_get x (length t.held.items)) i.agrees ∙ expected) in
-        goes_on gives table start text p names taken t h new s _ then keeps.stays keeps.kind_is keeps.last_is raw_here (record {
+        goes_on gives table start text (p ∷ []) names taken t h new s _ then keeps.stays keeps.kind_is keeps.last_is raw_here (record {
           held_is = ap (λ (x : List Placed). x ++ p ∷ []) i.held_is ∙ ap (λ (x : List Placed). less t ∷ record { ch = 47; at = at } ∷ x) (sym more)
               ∙ ap (λ (a : ℕ). record { ch = 60; at = a } ∷ record { ch = 47; at = at } ∷ new.held.items) (sym keeps.at_is);
           raises_none = raised ∙ i.raises_none;
@@ -240,7 +234,7 @@ module _ {S : Type 0} (gives : S → Item → Result (Unit {0}) Refusal → S �
 
     pub letter_held : (new : Tokenizer) (s : S) (c : ℕ) (answer : Result (Unit {0}) Refusal) → MatchResult answer (λ _. Holds t p new) (λ r. r ≡ Memory)
         → slice_get (string_bytes t.tag.name) (length t.held.items) ≡ Some c → eqb (to_ascii_lowercase p.ch) c ≡ true → Takes gives table start text (p ∷ []) taken names s answer s new
-    letter_held new s c (Err r) is expected same = ran_out gives table start text p names taken t h new s (Err r) (ap (λ (x : Refusal). Err x) is)
+    letter_held new s c (Err r) is expected same = ran_out_of gives table start text (p ∷ []) names taken t h new s (Err r) (ap (λ (x : Refusal). Err x) is)
     letter_held new s c (Ok u) i expected same =
         let is : to_ascii_lowercase p.ch ≡ c = eqb-true (to_ascii_lowercase p.ch) c same in
         subst (λ (x : Tokenizer). Takes gives table start text (p ∷ []) taken names s (Ok tt) s x) (sym i.then)

@@ -4,7 +4,7 @@ use Rattle.std.proofs.Math.ListN.{length-append}
 use Rattle.names.specs.declared.raw.RawKind.TheVariants as kind
 use Rattle.charref.specs.Held.{held_characters}
 use Rattle.htoken.specs.declared.state.State.TheVariants as state
-use Rattle.htoken.proofs.Going.{goes_on, span_ends}
+use Rattle.htoken.proofs.Going.{goes_on, spans_end}
 use Rattle.htoken.proofs.Pending.{stands_told, later_on, later_told}
 use Rattle.htoken.proofs.Cutting.{stands_on}
 use Rattle.htoken.proofs.Plain.{is_itself, plain_is, plain_span}
@@ -22,11 +22,8 @@ found_with table old new p found same taken number = record {
 
 -- where references may be no script does
 pub no_script : (k : RawKind) → has_references k ≡ true → is_script k ≡ true → ⊥
-no_script kind.None e f = absurd cc
-no_script kind.Rcdata e f = absurd cc
-no_script kind.Rawtext e f = absurd cc
 no_script kind.Script e f = absurd cc
-no_script kind.Plaintext e f = absurd cc
+no_script _ e f = absurd cc
 
 pub same_between : (here after : Standing) (t new : Tokenizer) → has_references here.kind ≡ true → after.kind ≡ here.kind → after.name ≡ here.name → new.tag ≡ t.tag → IsBetween here t → IsBetween after new
 same_between here after t new may kind name tag b = record {
@@ -70,7 +67,7 @@ module _ {S : Type 0} (gives : S → Item → Result (Unit {0}) Refusal → S �
       let i = inside in
       let same : new.state ≡ state.Reference = ap (λ (x : Tokenizer). x.state) holds.then ∙ after_amp in
       let reference : new.reference ≡ walk = ap (λ (x : Tokenizer). x.reference) holds.then in
-      goes_on gives table start text p names taken t h new s _ same (ap (λ (x : Tokenizer). x.refused) holds.then, ap (λ (x : Tokenizer). x.table) holds.then, ap (λ (x : Tokenizer). x.next) holds.then)
+      goes_on gives table start text (p ∷ []) names taken t h new s _ same (ap (λ (x : Tokenizer). x.refused) holds.then, ap (λ (x : Tokenizer). x.table) holds.then, ap (λ (x : Tokenizer). x.next) holds.then)
       (ap (λ (x : Tokenizer). x.kind) holds.then) (ap (λ (x : Tokenizer). x.last) holds.then) may (record {
         read = i.read ++ p ∷ [];
         held_is = ap (λ (x : List Placed). x ++ p ∷ []) i.held_is ∙ ap (λ (x : Tokenizer). record { ch = 38; at = x.at } ∷ (i.read ++ p ∷ [])) (sym holds.then);
@@ -129,7 +126,7 @@ module _ {S : Type 0} (gives : S → Item → Result (Unit {0}) Refusal → S �
       reference_ends new old s answer stays kind last in_text raised tag handed =
           let i = inside in
           let there : next h.here span ≡ record h.here { front = reverse whole ++ h.here.front } = next_is h.here whole (known_errors found t.at) (characters_of found.characters) (gives_some table [] _ i.is_table (is_reference [])) in
-          span_ends gives table start text p names taken t h span (ap (λ (x : List Placed). x ++ p ∷ []) (sym i.held_is))
+          spans_end gives table start text (p ∷ []) names taken t h span (ap (λ (x : List Placed). x ++ p ∷ []) (sym i.held_is))
           (λ end more. reference_is table end h.here more (record { text = whole; gives = characters_of found.characters; errors = known_errors found t.at }) may (is_reference more)) (no_tag (characters_of found.characters) t.at)
           new old s answer stays (kind ∙ h.kind_is ∙ sym (ap (λ x. x.kind) there)) (subst (λ (x : Option (List ℕ)). IsLast names new.last x) (sym (ap (λ x. x.name) there)) (subst (λ (x : Option ℕ). IsLast names x h.here.name) (sym last) h.name_is)) in_text (raised ∙ i.raises_none)
           (same_between h.here (next h.here span) t new may (ap (λ x. x.kind) there) (ap (λ x. x.name) there) tag i.between) handed
@@ -231,7 +228,7 @@ pub reference_begins : {S : Type 0} (gives : S → Item → Result (Unit {0}) Re
 reference_begins gives table start text p names taken t h new s in_text refers is b =
     let nothing = held_in h state.Text in_text in
     let may : has_references h.here.kind ≡ true = ap has_references (sym h.kind_is) ∙ refers in
-    goes_on gives table start text p names taken t h new s state.Reference (ap (λ x. x.state) b.then) (ap (λ x. x.refused) b.then, ap (λ x. x.table) b.then, ap (λ x. x.next) b.then) (ap (λ x. x.kind) b.then) (ap (λ x. x.last) b.then) may (record {
+    goes_on gives table start text (p ∷ []) names taken t h new s state.Reference (ap (λ x. x.state) b.then) (ap (λ x. x.refused) b.then, ap (λ x. x.table) b.then, ap (λ x. x.next) b.then) (ap (λ x. x.kind) b.then) (ap (λ x. x.last) b.then) may (record {
       read = [];
       held_is = ap (λ (x : List Placed). x ++ p ∷ []) nothing.0 ∙ ap (λ (c : ℕ). record { ch = c; at = p.at } ∷ []) is ∙ ap (λ (a : ℕ). record { ch = 38; at = a } ∷ []) (sym (ap (λ x. x.at) b.then));
       raises_none = ap (λ x. x.raised.errors.items) b.then ∙ nothing.1;

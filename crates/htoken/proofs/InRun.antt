@@ -1,13 +1,14 @@
 -- A run of plain characters, taken as a whole.
-use Rattle.htoken.proofs.Names.{◌≡◌, ◌≤◌, ◌<◌, ℕ, zero, suc, ◌+◌, Bool, true, false, List, [], ◌∷◌, ◌++◌, length, take, sym, refl, ap, ◌∙◌, subst, arith, drop, Result, Ok, Err, Option, append_assoc, append-nil, nat_tests, list_all, len_utf8, encode_utf8, chars, string_bytes, ParseError, Placed, RawKind, Refusal, Memory, Texts, Grows, all, placed, is_plain_character, IsCut, Entities, and_parts, HasReadOf, HasReadDoctype, IsDoctype, doctype_token, IsCommentOf, TakesRun, IsInTag, Raised, State, Tokenizer, Tok, Item, Event, Comment, Standing, is_script, FollowsAll, HandsEvents, run_events, replacement_run, tag_mark, after_place, next_from, after_last, less, Stands, Reads, holds, Takes, take_sink_refused, take_took, IsHeld, IsStateOf, IsLast, IsBetween, IsInMarkup, IsInMarkedTag, last_char, run_ran_out, run_refused, run_goes_on, IsUtf8, Hands, gives_item, run_tokens, Handed, Keeps, EndsTag, IsWholeTag, names_grow, tag_ahead, cond, prefix_len, and_from, is_only_data, prefix_all, front_of_test, is_ascii, len_utf8_ascii}
+use Rattle.htoken.proofs.Names.{◌≡◌, ◌≤◌, ◌<◌, ℕ, zero, suc, ◌+◌, Bool, true, false, List, [], ◌∷◌, ◌++◌, length, take, sym, refl, ap, ◌∙◌, subst, arith, drop, Result, Ok, Err, Option, append_assoc, append-nil, nat_tests, list_all, len_utf8, encode_utf8, chars, string_bytes, ParseError, Placed, RawKind, Refusal, Memory, Texts, Grows, all, placed, is_plain_character, IsCut, Entities, and_parts, HasReadOf, HasReadDoctype, IsDoctype, doctype_token, IsCommentOf, TakesRun, IsInTag, State, Tokenizer, Item, Event, Comment, Standing, is_script, FollowsAll, HandsEvents, run_events, replacement_run, tag_mark, after_place, next_from, after_last, less, Stands, Reads, holds, Takes, take_sink_refused, take_took, IsHeld, IsLast, IsBetween, IsInMarkup, IsInMarkedTag, last_char, run_ran_out, run_refused, run_goes_on, IsUtf8, Hands, gives_item, run_tokens, Handed, Keeps, EndsTag, IsWholeTag, names_grow, tag_ahead, cond, prefix_len, and_from, is_only_data, prefix_all, front_of_test, is_ascii, len_utf8_ascii}
 use Rattle.htoken.specs.declared.state.State.TheVariants as state
 use Rattle.htoken.proofs.InMarkup.{keeps, kept, markup_more, refused}
 use Rattle.htoken.proofs.InRaw.{after_characters}
-use Rattle.htoken.proofs.InTag.{last_kept, reads_kept, tag_handed}
+use Rattle.htoken.proofs.Going.{goes_on}
+use Rattle.htoken.proofs.InTag.{last_kept, tag_handed}
 use Rattle.htoken.proofs.Plain.{is_itself, plain_stands}
 use Rattle.htoken.proofs.Referring.{all_imp}
 use Rattle.htoken.proofs.Running.{run_given}
-use Rattle.htoken.proofs.Reading.{are_front, held_in, kind_in, ran_out_before, reads_as, reads_held, reads_text}
+use Rattle.htoken.proofs.Reading.{are_front, held_in, kind_in, ran_out_of, reads_as, reads_text}
 use Rattle.htoken.proofs.Scripting.{all_followed}
 
 pub all_itself : (ps : List Placed) → all is_plain_character ps ≡ true → all is_itself ps ≡ true
@@ -110,74 +111,42 @@ module _ {S : Type 0} (gives : S → Item → Result (Unit {0}) Refusal → S �
     text_taken old s (Ok u) handed = take_took (run_events run) refl handed (holds text_reads)
     text_taken old s (Err e) handed = take_sink_refused e (run_events run) refl handed (λ more end. are_front (sym (append_assoc text run more)) (text_stands end more))
 
-  -- MARKUP
+-- MARKUP, which goes on
 
-  -- the span goes on
-  went_on : (new : Tokenizer) (then : State) → new.state ≡ then → new.refused ≡ t.refused → new.table ≡ t.table → new.next ≡ after_last (text ++ run) → new.kind ≡ t.kind → new.last ≡ t.last → IsStateOf then h.here.kind → IsHeld then table names h.here new (h.held ++ run) []
-      → (s : S) → Takes gives table start text run taken names s (Ok tt) s new
-  went_on new then is refused same next kind last is_in held s = take_took [] refl ([], tt, (refl, refl)) (holds (reads_held h new run refused same next (λ end more. h.stands end (run ++ more)) kind last
-      (subst (λ (x : State). IsStateOf x h.here.kind) (sym is) is_in) (subst (λ (x : State). IsHeld x table names h.here new (h.held ++ run) []) (sym is) held)))
-
-  -- a comment or a doctype goes on
-  module _ {W V : Type 0} (HasRead : W → List Placed → List ParseError → Type 0) (IsOne : ℕ → List Placed → List Placed → V → List ParseError → Type 0) (token : V → ℕ → Tok) (walk then : W) (i : IsInMarkup HasRead IsOne token walk table t h.held []) (new : Tokenizer)
-      (same : new ≡ record t { next = new.next; comment = new.comment; doctype = new.doctype; raised = new.raised }) (next : new.next ≡ after_last (text ++ run)) where
-    markup_goes_on : (reported : List ParseError) → new.raised.errors.items ≡ t.raised.errors.items ++ reported → HasRead then (i.body ++ run) (i.own ++ reported) → (here : State) → t.state ≡ here → IsStateOf here h.here.kind
-        → (IsInMarkup HasRead IsOne token then table new (h.held ++ run) [] → IsHeld here table names h.here new (h.held ++ run) []) → (s : S) → Takes gives table start text run taken names s (Ok tt) s new
-    markup_goes_on reported raised has here in_here is_in held s =
-        let ahead : IsInMarkup HasRead IsOne token walk table t h.held run = record {
-          opening = i.opening;
-          body = i.body;
-          first = i.first;
-          own = i.own;
-          others = i.others;
-          starts = i.starts;
-          held_is = i.held_is;
-          has_read = i.has_read;
-          raised_is = i.raised_is;
-          opens = λ end rest more. i.opens end rest (run ++ more);
-        } in
-        went_on new here (ap (λ (x : Tokenizer). x.state) same ∙ in_here) (ap (λ (x : Tokenizer). x.refused) same) (ap (λ (x : Tokenizer). x.table) same) next (ap (λ (x : Tokenizer). x.kind) same) (ap (λ (x : Tokenizer). x.last) same) is_in
-        (held (markup_more HasRead IsOne token table t h.held run walk ahead new then reported (ap (λ (x : Tokenizer). x.at) same) raised has)) s
-
+module _ {S : Type 0} (gives : S → Item → Result (Unit {0}) Refusal → S → Type 0) (table : Entities) (start : RawKind) (names : Texts) (text : List Placed) (taken : List Event) (t : Tokenizer) (run : List Placed) (h : Reads table start t names text run taken) where
   module _ (in_comment : t.state ≡ state.Comment) where
-    pub comment_here : IsHeld state.Comment table names h.here t h.held []
+    pub comment_here : IsHeld state.Comment table names h.here t h.held run
     comment_here = held_in h state.Comment in_comment
 
-    abbrev pub inside : IsInMarkup (HasReadOf comment_here.0) (IsCommentOf comment_here.0) Comment t.comment table t h.held []
+    abbrev pub inside : IsInMarkup (HasReadOf comment_here.0) (IsCommentOf comment_here.0) Comment t.comment table t h.held run
     inside = comment_here.1
 
     abbrev pub Took : Result (Unit {0}) Refusal → Tokenizer → Type 0
     Took answer new = TakesRun keeps (HasReadOf comment_here.0) (IsCommentOf comment_here.0) inside.body inside.own run t.raised answer new.comment new.raised
 
     pub comment_stopped : (e : Refusal) (new last : Tokenizer) (s : S) → Took (Err e) new → Takes gives table start text run taken names s (Err e) s last
-    comment_stopped e new last s (run_ran_out reported is handed b) = subst (λ (x : Result (Unit {0}) Refusal). Takes gives table start text run taken names s x s last) (sym is) (ran_out_before gives table start text run names taken t h last s)
-    comment_stopped e new last s (run_refused x reported is handed b) =
-        let why : x ≡ Memory = refused t.raised new.raised reported x handed in
-        subst (λ (y : Result (Unit {0}) Refusal). Takes gives table start text run taken names s y s last) (sym (is ∙ ap (λ (y : Refusal). Err y) why)) (ran_out_before gives table start text run names taken t h last s)
+    comment_stopped e new last s (run_ran_out reported is handed b) = ran_out_of gives table start text run names taken t h last s (Err e) is
+    comment_stopped e new last s (run_refused x reported is handed b) = ran_out_of gives table start text run names taken t h last s (Err e) (is ∙ ap (λ (y : Refusal). Err y) (refused t.raised new.raised reported x handed))
     comment_stopped e new last s (run_goes_on reported is handed has) = absurd cc
 
-    pub comment_goes_on : (new : Tokenizer) (s : S) → new ≡ record t { next = new.next; comment = new.comment; doctype = new.doctype; raised = new.raised } → new.next ≡ after_last (text ++ run) → Took (Ok tt) new → Takes gives table start text run taken names s (Ok tt) s new
-    comment_goes_on new s same next (run_ran_out reported is handed b) = absurd cc
-    comment_goes_on new s same next (run_refused x reported is handed b) = absurd cc
-    comment_goes_on new s same next (run_goes_on reported is handed has) =
-        markup_goes_on (HasReadOf comment_here.0) (IsCommentOf comment_here.0) Comment t.comment new.comment inside new same next reported (kept t.raised new.raised reported handed) has state.Comment in_comment (kind_in h state.Comment in_comment) (λ x. (comment_here.0, x)) s
+    pub comment_goes_on : (new : Tokenizer) (s : S) → Keeps t new → new.state ≡ t.state → Took (Ok tt) new → Takes gives table start text run taken names s (Ok tt) s new
+    comment_goes_on new s keep same (run_goes_on reported is handed has) =
+        goes_on gives table start text run names taken t h new s _ (same ∙ in_comment) keep.stays keep.kind_is keep.last_is (kind_in h state.Comment in_comment)
+        (comment_here.0, markup_more (HasReadOf comment_here.0) (IsCommentOf comment_here.0) Comment table t h.held run t.comment inside new new.comment reported keep.at_is (kept t.raised new.raised reported handed) has)
+    comment_goes_on new s keep same (run_ran_out reported is handed b) = absurd cc
+    comment_goes_on new s keep same (run_refused x reported is handed b) = absurd cc
 
-  module _ (in_doctype : t.state ≡ state.Doctype) where
-    pub doctype_here : IsHeld state.Doctype table names h.here t h.held []
-    doctype_here = held_in h state.Doctype in_doctype
-
-    pub doctype_goes_on : (new : Tokenizer) (s : S) → new ≡ record t { next = new.next; doctype = new.doctype } → new.next ≡ after_last (text ++ run) → HasReadDoctype new.doctype (doctype_here.body ++ run) doctype_here.own
-        → Takes gives table start text run taken names s (Ok tt) s new
-    doctype_goes_on new s same next has =
-        let raised : new.raised ≡ t.raised = ap (λ (x : Tokenizer). x.raised) same in
-        markup_goes_on HasReadDoctype IsDoctype doctype_token t.doctype new.doctype doctype_here new
-        (same ∙ ap (λ (x : Tokenizer). record t { next = new.next; comment = x.comment; doctype = new.doctype; raised = x.raised }) (sym same)) next [] (ap (λ (x : Raised). x.errors.items) raised ∙ sym (append-nil t.raised.errors.items))
-        (subst (HasReadDoctype new.doctype (doctype_here.body ++ run)) (sym (append-nil doctype_here.own)) has) state.Doctype in_doctype (kind_in h state.Doctype in_doctype) (λ x. x) s
+  pub doctype_goes_on : (in_doctype : t.state ≡ state.Doctype) (new : Tokenizer) (s : S) → Keeps t new → new.state ≡ t.state → new.raised.errors.items ≡ t.raised.errors.items
+      → HasReadDoctype new.doctype ((held_in h state.Doctype in_doctype).body ++ run) (held_in h state.Doctype in_doctype).own → Takes gives table start text run taken names s (Ok tt) s new
+  doctype_goes_on in_doctype new s keep same raised has =
+      let i = held_in h state.Doctype in_doctype in
+      goes_on gives table start text run names taken t h new s _ (same ∙ in_doctype) keep.stays keep.kind_is keep.last_is (kind_in h state.Doctype in_doctype)
+      (markup_more HasReadDoctype IsDoctype doctype_token table t h.held run t.doctype i new new.doctype [] keep.at_is (raised ∙ sym (append-nil t.raised.errors.items)) (subst (HasReadDoctype new.doctype (i.body ++ run)) (sym (append-nil i.own)) has))
 
 -- A TAG
 
-module _ {S : Type 0} (gives : S → Item → Result (Unit {0}) Refusal → S → Type 0) (table : Entities) (start : RawKind) (names later : Texts) (grows : Grows names later) (text : List Placed) (taken : List Event) (t : Tokenizer) (h : Reads table start t names text [] taken)
-    (in_tag : t.state ≡ state.Tag) (run : List Placed) where
+module _ {S : Type 0} (gives : S → ParseError → Result (Unit {0}) Refusal → S → Type 0) (gives_token : S → Handed → Result (Unit {0}) Refusal → S → Type 0) (table : Entities) (start : RawKind) (names later : Texts) (grows : Grows names later) (text : List Placed) (taken : List Event) (t : Tokenizer)
+    (h : Reads table start t names text [] taken) (in_tag : t.state ≡ state.Tag) (run : List Placed) where
   abbrev pub tag_here : IsInMarkedTag table names h.here t h.held []
   tag_here = held_in h state.Tag in_tag
 
@@ -185,52 +154,45 @@ module _ {S : Type 0} (gives : S → Item → Result (Unit {0}) Refusal → S �
   pub tag_read : IsInTag t.table.now names t.tag tag_here.body [] t.raised.errors.items
   tag_read = subst (λ (x : Entities). IsInTag x names t.tag tag_here.body [] t.raised.errors.items) (sym h.table_is) tag_here.in_tag
 
-  now : Reads table start t later text [] taken
-  now = reads_kept table start t names later text [] taken grows h
+  abbrev pub over : Tokenizer
+  over = record t { next = after_last (text ++ run) }
 
-  pub tag_stopped : (e : Refusal) (new : Tokenizer) (s : S) → e ≡ Memory → Takes gives table start text run taken later s (Err e) s new
-  tag_stopped e new s is = subst (λ (x : Refusal). Takes gives table start text run taken later s (Err x) s new) (sym is) (ran_out_before gives table start text run later taken t now new s)
-
-  -- it goes on
-  module _ (new : Tokenizer) (then : new ≡ record t { next = new.next; tag = new.tag; raised = new.raised }) (next : new.next ≡ after_last (text ++ run)) (kind : new.tag.kind ≡ t.tag.kind)
-      (more : IsInTag t.table.now later new.tag (tag_here.body ++ run) [] new.raised.errors.items) where
-    pub tag_goes_on : (s : S) → Takes gives table start text run taken later s (Ok tt) s new
-    unfolding now reads_kept reads_as
-    tag_goes_on s =
-        let i = tag_here in
-        let at_is : new.at ≡ t.at = ap (λ (x : Tokenizer). x.at) then in
-        went_on gives table start later text taken t now run new _ (ap (λ (x : Tokenizer). x.state) then ∙ in_tag) (ap (λ (x : Tokenizer). x.refused) then) (ap (λ (x : Tokenizer). x.table) then) next (ap (λ (x : Tokenizer). x.kind) then) (ap (λ (x : Tokenizer). x.last) then) tt (record {
-          opening = i.opening;
-          body = i.body ++ run;
-          held_is = ap (λ (x : List Placed). x ++ run) i.held_is ∙ append_assoc (less t ∷ i.opening) i.body run ∙ ap (λ (a : ℕ). record { ch = 60; at = a } ∷ (i.opening ++ (i.body ++ run))) (sym at_is);
-          opens = i.opens ∙ ap tag_mark (sym kind);
-          in_tag = subst (λ (x : Entities). IsInTag x later new.tag (i.body ++ run) [] new.raised.errors.items) h.table_is more;
-          fits = λ end rest others span e is. i.fits end rest (run ++ others) span (e ∙ append_assoc h.held run others) is;
-        }) s
-
--- it ends
-module _ {S : Type 0} (gives : S → ParseError → Result (Unit {0}) Refusal → S → Type 0) (gives_token : S → Handed → Result (Unit {0}) Refusal → S → Type 0) (table : Entities) (start : RawKind) (names later : Texts) (grows : Grows names later) (text : List Placed) (taken : List Event) (t : Tokenizer)
-    (h : Reads table start t names text [] taken) (in_tag : t.state ≡ state.Tag) (run : List Placed) (place : ℕ) (next : place ≡ after_last (text ++ run)) where
-  abbrev tag : IsInMarkedTag table names h.here t h.held []
-  tag = held_in h state.Tag in_tag
-
-  ahead : Reads table start (record t { next = place }) later text run taken
-  ahead = reads_as h (record t { next = place }) later run taken refl refl next (λ end more. h.stands end (run ++ more)) refl (last_kept names later t.last h.here.name grows h.name_is) h.is_in
-      (subst (λ (s : State). IsHeld s table later h.here (record t { next = place }) h.held run) (sym in_tag) (record {
-        opening = tag.opening;
-        body = tag.body;
-        held_is = tag.held_is;
-        opens = tag.opens;
-        in_tag = tag_ahead table later t.tag tag.body t.raised.errors.items (names_grow names later grows table t.tag tag.body [] t.raised.errors.items tag.in_tag) run;
-        fits = λ end rest more span e is. tag.fits end rest (run ++ more) span e is;
+  ahead : Reads table start over later text run taken
+  ahead = reads_as h over later run taken refl refl refl (λ end more. h.stands end (run ++ more)) refl (last_kept names later t.last h.here.name grows h.name_is) h.is_in
+      (subst (λ (s : State). IsHeld s table later h.here over h.held run) (sym in_tag) (record {
+        opening = tag_here.opening;
+        body = tag_here.body;
+        held_is = tag_here.held_is;
+        opens = tag_here.opens;
+        in_tag = tag_ahead table later t.tag tag_here.body t.raised.errors.items (names_grow names later grows table t.tag tag_here.body [] t.raised.errors.items tag_here.in_tag) run;
+        fits = λ end rest more span e is. tag_here.fits end rest (run ++ more) span e is;
       }))
 
-  pub tag_finishes : (mid : Tokenizer) → Keeps (record t { next = place }) mid → mid.tag.kind ≡ t.tag.kind → (read : Texts) → Grows read later → IsWholeTag t.table.now read mid.tag (tag.body ++ run) mid.raised.errors.items
+  pub tag_stopped : (e : Refusal) (new : Tokenizer) (s : S) → e ≡ Memory → Takes (gives_item gives gives_token) table start text run taken later s (Err e) s new
+  tag_stopped e new s is = ran_out_of (gives_item gives gives_token) table start text run later taken over ahead new s (Err e) (ap (λ (x : Refusal). Err x) is)
+
+  -- it goes on
+  pub tag_goes_on : (new : Tokenizer) → Keeps over new → new.state ≡ t.state → new.tag.kind ≡ t.tag.kind → IsInTag t.table.now later new.tag (tag_here.body ++ run) [] new.raised.errors.items
+      → (s : S) → Takes (gives_item gives gives_token) table start text run taken later s (Ok tt) s new
+  unfolding ahead reads_as
+  tag_goes_on new keep same kind more s =
+      let i = tag_here in
+      goes_on (gives_item gives gives_token) table start text run later taken over ahead new s _ (same ∙ in_tag) keep.stays keep.kind_is keep.last_is tt (record {
+        opening = i.opening;
+        body = i.body ++ run;
+        held_is = ap (λ (x : List Placed). x ++ run) i.held_is ∙ append_assoc (less t ∷ i.opening) i.body run ∙ ap (λ (a : ℕ). record { ch = 60; at = a } ∷ (i.opening ++ (i.body ++ run))) (sym keep.at_is);
+        opens = i.opens ∙ ap tag_mark (sym kind);
+        in_tag = subst (λ (x : Entities). IsInTag x later new.tag (i.body ++ run) [] new.raised.errors.items) h.table_is more;
+        fits = λ end rest others span e is. i.fits end rest (run ++ others) span (e ∙ append_assoc h.held run others) is;
+      })
+
+  -- it ends
+  pub tag_finishes : (mid : Tokenizer) → Keeps over mid → mid.tag.kind ≡ t.tag.kind → (read : Texts) → Grows read later → IsWholeTag t.table.now read mid.tag (tag_here.body ++ run) mid.raised.errors.items
       → (new : Tokenizer) (old s : S) (answer : Result (Unit {0}) Refusal) → EndsTag (gives_item gives gives_token) mid later old answer new s → Takes (gives_item gives gives_token) table start text run taken later old answer s new
   unfolding ahead reads_as
   tag_finishes mid keep kind read then w new old s answer ended =
-      tag_handed gives gives_token table start text run later taken (record t { next = place }) ahead tag.opening (tag.body ++ run) (sym (ap (λ (x : List Placed). x ++ run) tag.held_is ∙ ap (λ (x : List Placed). less t ∷ x) (append_assoc tag.opening tag.body run)))
-      (λ end more span e is. tag.fits end more run span e is) mid keep (tag.opens ∙ ap tag_mark (sym kind)) read then (subst (λ (x : Entities). IsWholeTag x read mid.tag (tag.body ++ run) mid.raised.errors.items) h.table_is w) new old s answer ended
+      tag_handed gives gives_token table start text run later taken over ahead tag_here.opening (tag_here.body ++ run) (sym (ap (λ (x : List Placed). x ++ run) tag_here.held_is ∙ ap (λ (x : List Placed). less t ∷ x) (append_assoc tag_here.opening tag_here.body run)))
+      (λ end more span e is. tag_here.fits end more run span e is) mid keep (tag_here.opens ∙ ap tag_mark (sym kind)) read then (subst (λ (x : Entities). IsWholeTag x read mid.tag (tag_here.body ++ run) mid.raised.errors.items) h.table_is w) new old s answer ended
 
 -- bad parts where nothing is held
 pub bad_taken : {S : Type 0} (gives : S → ParseError → Result (Unit {0}) Refusal → S → Type 0) (gives_token : S → Handed → Result (Unit {0}) Refusal → S → Type 0) (table : Entities) (start : RawKind) (names : Texts) (text : List Placed) (taken : List Event) (t : Tokenizer) → Reads table start t names text [] taken

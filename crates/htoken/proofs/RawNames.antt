@@ -1,5 +1,5 @@
 -- The names of raw texts are lower letters: wherever raw text is after a start tag, its name says the kind.
-use Rattle.htoken.proofs.Names.{◌≡◌, ℕ, zero, suc, Bool, true, false, not, cond, ◌||◌, ◌&&◌, eqb, List, [], ◌∷◌, length, sym, refl, ap, ◌∙◌, subst, Some, arith, nat_tests, slice_get, to_ascii_lowercase, list_all, Placed, RawKind, Tag, lowered, is_letter, raw_kind, and_parts, Tok, Span, Start, End, Char, Comment, Doctype, Eof, Standing, at_start, next, standing_after, is_raw, bytes_eq-true, bytes_eq, tag_text, tags, tag_among, after_tokens, implied}
+use Rattle.htoken.proofs.Names.{◌≡◌, ℕ, zero, suc, Bool, true, false, not, cond, ◌||◌, ◌&&◌, eqb, List, [], ◌∷◌, length, sym, refl, ap, ◌∙◌, subst, Some, arith, nat_tests, slice_get, to_ascii_lowercase, list_all, Placed, RawKind, Tag, lowered, is_letter, raw_kind, and_parts, Tok, Span, Start, Char, Standing, at_start, next, standing_after, is_raw, bytes_eq-true, bytes_eq, tag_text, tags, tag_among, after_tokens, implied}
 
 -- a lower letter
 abbrev pub is_lower : ℕ → Bool
@@ -30,13 +30,9 @@ abbrev HasWord : Standing → Type 0
 HasWord here = (name : List ℕ) → here.name ≡ Some name → is_raw here.kind ≡ true → is_word name ≡ true
 
 after_word : (here : Standing) (text : List Placed) (tokens : List Tok) → HasWord here → HasWord (after_tokens here text tokens)
-after_word here text [] h name e raw = absurd cc
 after_word here text (Start written attrs closing at ∷ others) h name e raw = let same : written ≡ name = cc in ap is_word (sym same) ∙ word_among tags written all_fit raw
 after_word here text (Char ch at ∷ others) h name e raw = h name e raw
-after_word here text (End written at ∷ others) h name e raw = absurd cc
-after_word here text (Comment text' at ∷ others) h name e raw = absurd cc
-after_word here text (Doctype name' public system forced at ∷ others) h name e raw = absurd cc
-after_word here text (Eof at ∷ others) h name e raw = absurd cc
+after_word here text _ h name e raw = absurd cc
 
 spans_word : (here : Standing) (spans : List Span) → HasWord here → HasWord (standing_after here spans)
 spans_word here [] h = h

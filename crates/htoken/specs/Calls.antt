@@ -8,19 +8,13 @@ use Rattle.charref.specs.Reference.{Entities}
 use Rattle.htoken.specs.declared.tokenizer.Tokenizer.{Tokenizer}
 use Rattle.htoken.specs.Token.{Item, Event}
 use Rattle.htoken.specs.Steps.{TakesPart}
-use Rattle.htoken.specs.Tokenizing.{HasTaken, Reads, Takes, EndsHeld}
+use Rattle.htoken.specs.Tokenizing.{HasTaken, Reads, Takes}
 
 -- A character is taken that is known to come next.
 abbrev pub TakesNext : {S : Type 0} → (S → Item → Result (Unit {0}) Refusal → S → Type 0) → Tokenizer → Placed
     → S → Result (Unit {0}) Refusal → S → Tokenizer → Type 0
 TakesNext gives t p old answer new next = (table : Entities) (start : RawKind) (names : Texts) (text : List Placed) (taken : List Event)
     → Reads table start t names text (p ∷ []) taken → Takes gives table start text (p ∷ []) taken names old answer new next
-
--- What is held ends where the input does.
-abbrev pub EndsRead : {S : Type 0} → (S → Item → Result (Unit {0}) Refusal → S → Type 0) → Tokenizer → ℕ
-    → S → Result (Unit {0}) Refusal → Tokenizer → S → Type 0
-EndsRead gives t end old answer next new = (table : Entities) (start : RawKind) (names : Texts) (text : List Placed) (taken : List Event)
-    → Reads table start t names text [] taken → EndsHeld gives table start end text taken names old answer next new
 
 -- What is so of every text that the tokenizer was fed and all events that were taken of it; the table of names may have grown since.
 abbrev pub FromWhatWasTaken : Tokenizer → Texts → (Entities → RawKind → List Placed → List Event → Type 0) → Type 0

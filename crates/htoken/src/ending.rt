@@ -1,7 +1,7 @@
 //! The end of the input, in each state (HTML Standard, `#tokenization`).
 
-ghost use Rattle.std.specs.Prelude.{◌≡◌, ◌∷◌, ◌++◌, ℕ, List, [], ◌&&◌, map, nat_lt};
-ghost use Rattle.htoken.specs.Vocabulary.{is_script, level_number, Character, CutsOff, EndsHeld, EndsRead, Entities, Eof, EofBeforeTagName, Event, Finishes, Gives, gives_item, Grows, HandsEvents, HasTaken, IsInTag, Kind, less, Reports, script_errors, Texts};
+ghost use Rattle.std.specs.Prelude.{◌≡◌, ◌∷◌, ◌++◌, List, [], ◌&&◌, map, nat_lt};
+ghost use Rattle.htoken.specs.Vocabulary.{is_script, level_number, Character, CutsOff, EndsHeld, Entities, Eof, EofBeforeTagName, Event, Finishes, Gives, gives_item, Grows, HandsEvents, HasTaken, IsInTag, Kind, less, Reports, script_errors, Texts};
 
 use crate::hand::{give, give_faulty, hand_errors, tell_if};
 use crate::sink::TokenSink;
@@ -41,10 +41,25 @@ impl<'t> Tokenizer<'t> {
                 give_faulty(ErrorCode::EofBeforeTagName, end, '<', self.at, sink)?;
                 give('/', solidus, sink)
             }
-            State::MarkupDeclarationOpen(_) => self.end_in_markup_declaration_open(end, sink),
-            State::Comment => self.end_in_comment(end, sink),
-            State::Doctype => self.end_in_doctype(end, sink),
-            State::Reference => self.end_in_reference(sink),
+            // What comes after `<!` is read as a comment.
+            State::MarkupDeclarationOpen(_) => {
+                self.begin_held(ErrorCode::IncorrectlyOpenedComment, end)?;
+                self.comment.end(end, &mut self.raised)?;
+                self.end_comment(sink)
+            }
+            State::Comment => {
+                self.comment.end(end, &mut self.raised)?;
+                self.end_comment(sink)
+            }
+            State::Doctype => {
+                self.doctype.end(end, &mut self.raised)?;
+                self.end_doctype(sink)
+            }
+            // What does not belong to the reference is text.
+            State::Reference => {
+                let found = self.reference.end();
+                self.give_reference(&found, self.held.len().saturating_sub(found.left), sink)
+            }
             State::AmbiguousAmpersand(_) => Ok(()),
             State::Tag => self.cut_off(names, end, sink),
             State::RcdataLessThanSign => {
@@ -53,43 +68,6 @@ impl<'t> Tokenizer<'t> {
             }
             State::RcdataEndTagName(solidus) => self.give_held(solidus, sink),
         }
-    }
-
-    /// What comes after `<!` is read as a comment that ends where the input does.
-    fn end_in_markup_declaration_open<S: TokenSink>(&mut self, end: u64, sink: &mut S) -> Answer
-        requires { (bang : ℕ) × (self.old.state ≡ State.MarkupDeclarationOpen bang) }
-        ensures { EndsRead (gives_item S.gives S.gives_token) self.old end sink.old result self.new sink.new }
-    {
-        self.begin_held(ErrorCode::IncorrectlyOpenedComment, end)?;
-        self.comment.end(end, &mut self.raised)?;
-        self.end_comment(sink)
-    }
-
-    /// A comment ends where the input does.
-    fn end_in_comment<S: TokenSink>(&mut self, end: u64, sink: &mut S) -> Answer
-        requires { self.old.state ≡ State.Comment }
-        ensures { EndsRead (gives_item S.gives S.gives_token) self.old end sink.old result self.new sink.new }
-    {
-        self.comment.end(end, &mut self.raised)?;
-        self.end_comment(sink)
-    }
-
-    /// A doctype ends where the input does.
-    fn end_in_doctype<S: TokenSink>(&mut self, end: u64, sink: &mut S) -> Answer
-        requires { self.old.state ≡ State.Doctype }
-        ensures { EndsRead (gives_item S.gives S.gives_token) self.old end sink.old result self.new sink.new }
-    {
-        self.doctype.end(end, &mut self.raised)?;
-        self.end_doctype(sink)
-    }
-
-    /// A reference ends where the input does; what does not belong to it is text.
-    fn end_in_reference<S: TokenSink>(&mut self, sink: &mut S) -> Answer
-        requires { self.old.state ≡ State.Reference }
-        ensures { (end : ℕ) → EndsRead (gives_item S.gives S.gives_token) self.old end sink.old result self.new sink.new }
-    {
-        let found = self.reference.end();
-        self.give_reference(&found, self.held.len().saturating_sub(found.left), sink)
     }
 
     /// A tag that the end cuts off gives no token.

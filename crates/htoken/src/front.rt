@@ -4,7 +4,7 @@
 ghost use Rattle.std.specs.Prelude.{◌≡◌, ◌≤◌, ◌<◌, ◌+◌, List, true, false, IfOk, IfSome, is_some, MatchResult, Err, drop, length, slice_index, take};
 ghost use Rattle.std.specs.List.{list_all};
 ghost use Rattle.std.specs.Str.{chars};
-ghost use Rattle.htoken.specs.Vocabulary.{bare_errors, Character, Entities, Error, Event, FeedsPart, first_placed, FollowsAll, gives_item, GivesFront, Hands, is_clean, is_script, is_text_byte, IsBare, IsCut, IsWhole, Kind, MAX_INPUT, placed, Reads, RefusesFront, run_tokens, ShowsAmpersand, Takes, TakesOn, TakesPart, TellsText, Texts};
+ghost use Rattle.htoken.specs.Vocabulary.{bare_errors, Character, Entities, Error, Event, FeedsPart, first_placed, FollowsAll, gives_item, Hands, is_clean, is_script, is_text_byte, IsBare, IsCut, IsWhole, Kind, MAX_INPUT, placed, Reads, run_tokens, ShowsAmpersand, Takes, TakesOn, TellsText, Texts};
 
 use crate::hand::{give_piece, tell_unknown};
 use crate::run::after_last;
@@ -144,38 +144,15 @@ impl<'t> Tokenizer<'t> {
         ensures takes { TakesOn (gives_item S.gives S.gives_token) self.old run.now at count sink.old result sink.new self.new }
         ensures few { IfOk result (λ all. (0 < all) × IsCut all run.now) }
     {
-        let (more, next) = self.take_as_one_text(whole, &run[count..], at + count as u64, sink)?;
-        self.take_end(count + more, next, run, at, sink)
-    }
-
-    /// Takes the whole reference at the front of a run, if one is there, and the text and references after it, as one text, if the sink takes that.
-    /// Returns the length, and the whole reference that comes next, if the run shows one.
-    #[inline(always)]
-    fn take_as_one_text<S: TokenSink>(
-        &mut self,
-        whole: Option<(Reference, usize)>,
-        run: &str,
-        at: u64,
-        sink: &mut S,
-    ) -> Result<(usize, Option<(Reference, usize)>), Refusal>
-        requires clean { list_all is_clean (chars run.now) ≡ true }
-        requires within { at + length run.now ≤ MAX_INPUT }
-        requires starts { 0 < length run.now → is_text_byte (slice_index run.now 0) ≡ false }
-        requires whole { IfSome whole (λ it. IsWhole self.old.table.now self.old.kind run.now it.0 it.1) }
-        ensures front { (names : Texts) → MatchResult result
-            (λ it. GivesFront (gives_item S.gives S.gives_token) names self.old.table.now self.old.kind run.now at it.0 sink.old (Ok tt) sink.new)
-            (λ e. RefusesFront (gives_item S.gives S.gives_token) names self.old.table.now self.old.kind run.now at sink.old e sink.new) }
-        ensures then { self.new ≡ record self.old { with_references = self.new.with_references } }
-        ensures ends { IfOk result (λ it. it.0 < length run.now → is_text_byte (slice_index run.now it.0) ≡ false) }
-        ensures whole { IfOk result (λ it. IfSome it.1 (λ next. IsWhole self.old.table.now self.old.kind (drop it.0 run.now) next.0 next.1)) }
-    {
-        let (size, next) = self
+        let rest = &run[count..];
+        let place = at + count as u64;
+        let (more, next) = self
             .with_references
-            .gather(self.table, self.kind, whole, run, at)?;
-        if self.with_references.give(at, sink)? {
-            return Ok((size, next));
+            .gather(self.table, self.kind, whole, rest, place)?;
+        if self.with_references.give(place, sink)? {
+            return self.take_end(count + more, next, run, at, sink);
         }
-        Ok((0, whole))
+        self.take_end(count, whole, run, at, sink)
     }
 
     /// Takes what comes after this many bytes of a run, which have been taken: nothing, a `<`, or an `&`, and with it the whole reference if the
@@ -204,8 +181,12 @@ impl<'t> Tokenizer<'t> {
         }
         let end = at + count as u64;
         self.next = after(end);
-        let more = self.take_less_than_or_ampersand(whole, &run[count..], end, sink)?;
-        Ok(count + more)
+        if let Some((found, size)) = whole {
+            self.take_whole(&found, size, &run[count..], end, sink)?;
+            return Ok(count + (size + 1));
+        }
+        self.in_text(char::from(run.as_bytes()[count]), end, sink)?;
+        Ok(count + 1)
     }
 
     /// Gives the text at the front of a run, if there is any.
@@ -222,33 +203,6 @@ impl<'t> Tokenizer<'t> {
         }
         self.follow_run(front);
         sink.take_run(front, at)
-    }
-
-    /// Takes the `<` or the `&` at the front of a run, or the whole reference if one is there. Returns the length.
-    #[inline(always)]
-    fn take_less_than_or_ampersand<S: TokenSink>(
-        &mut self,
-        whole: Option<(Reference, usize)>,
-        run: &str,
-        at: u64,
-        sink: &mut S,
-    ) -> Taken
-        requires text { self.old.state ≡ State.Text }
-        requires whole { IfSome whole (λ it. IsWhole self.old.table.now self.old.kind run.now it.0 it.1) }
-        requires some { 0 < length run.now }
-        requires ends { is_text_byte (slice_index run.now 0) ≡ false }
-        requires within { at + length run.now ≤ MAX_INPUT }
-        ensures takes { (table : Entities) (start : Kind) (names : Texts) (text : List Character) (taken : List Event)
-            → Reads table start self.old names text (first_placed at run.now) taken
-            → TakesPart (gives_item S.gives S.gives_token) table start text at run.now taken names sink.old result sink.new self.new }
-        ensures few { IfOk result (λ count. (0 < count) × IsCut count run.now) }
-    {
-        if let Some((found, count)) = whole {
-            self.take_whole(&found, count, run, at, sink)?;
-            return Ok(count + 1);
-        }
-        self.in_text(char::from(run.as_bytes()[0]), at, sink)?;
-        Ok(1)
     }
 
     /// Takes the whole reference at the front of a run, and after it the character that shows its end, if it leaves one.

@@ -24,7 +24,7 @@ pub(crate) enum Opens {
 const ENOUGH: usize = 7;
 
 /// Whether a character is this byte of a word, which is in lower case if the character may be in any case.
-fn is_read_as(ch: char, byte: u8, any_case: bool) -> bool
+pub(crate) fn is_read_as(ch: char, byte: u8, any_case: bool) -> bool
     ensures { result ≡ (read_as any_case ch == byte) }
 {
     if any_case {

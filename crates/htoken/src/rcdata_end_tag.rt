@@ -4,7 +4,8 @@ ghost use Rattle.std.specs.Prelude.{◌≡◌, ◌∷◌, ◌++◌, List, [], sl
 ghost use Rattle.htoken.specs.Vocabulary.{backwards, Character, Entities, Event, gives_item, Grows, HandsEvents, HasFront, held_in_raw, Holds, is_script, Kind, name_ends, Reads, run_events, Takes, TakesNext, Texts};
 
 use crate::hand::{give, give_all};
-use crate::script::{agrees, ends_name};
+use crate::markup_declaration_open::is_read_as;
+use crate::script::ends_name;
 use crate::sink::TokenSink;
 use crate::state::State;
 use crate::tokenizer::{Answer, Tokenizer};
@@ -53,7 +54,7 @@ impl<'t> Tokenizer<'t> {
     {
         match self.expected() {
             Some(byte) => {
-                if agrees(ch, byte) {
+                if is_read_as(ch, byte, true) {
                     self.hold(ch, at)
                 } else {
                     self.after_held(solidus, ch, at, sink)

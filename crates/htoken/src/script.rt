@@ -2,8 +2,7 @@
 
 ghost use Rattle.std.specs.Prelude.{◌≡◌, [], ◌∷◌, ◌==◌, ◌&&◌, ℕ, List, nat_lt, bit_and};
 ghost use Rattle.std.specs.Str.{chars};
-ghost use Rattle.htoken.specs.Vocabulary.{byte_of, Character, ends_name, FollowsAll, HasFront, level_after, level_number, next_level, placed};
-ghost use Rattle.std.specs.Char.{to_ascii_lowercase};
+ghost use Rattle.htoken.specs.Vocabulary.{byte_of, Character, ends_name, FollowsAll, HasFront, level_number, next_level, placed};
 
 use names::Placed;
 
@@ -36,9 +35,9 @@ const DASHES: u64 = 0x2D2D;
 
 const LESS_BANG_DASH: u64 = 0x3C_212D;
 
-const LESS_SCRIPT: u64 = 0x3C_7363_7269_7074;
+const OPENS_SCRIPT: u64 = 0x3C_7363_7269_7074;
 
-const LESS_SOLIDUS_SCRIPT: u64 = 0x3C2F_7363_7269_7074;
+const ENDS_SCRIPT: u64 = 0x3C2F_7363_7269_7074;
 
 /// A character as a byte: in lower case, or 0 where it is not ASCII.
 #[inline(always)]
@@ -52,33 +51,11 @@ fn byte_of(ch: char) -> u64
     }
 }
 
-/// Whether a character is this byte of a name, in any case.
-pub(crate) fn agrees(ch: char, byte: u8) -> bool
-    ensures { result ≡ (to_ascii_lowercase ch == byte) }
-{
-    u32::from(ch.to_ascii_lowercase()) == u32::from(byte)
-}
-
 /// Whether a character ends a tag's name.
 pub(crate) fn ends_name(ch: char) -> bool
     ensures { result ≡ ends_name ch }
 {
     ch.is_ascii_whitespace() || ch == '/' || ch == '>'
-}
-
-impl Level {
-    /// The level after a character that ends `-->`, `<!--`, `<script` or `</script`, or none of them.
-    fn after(self, ends: bool, begins: bool, opens: bool, closes: bool) -> Level
-        ensures { result ≡ level_after self ends begins opens closes }
-    {
-        match self {
-            _ if ends => Level::Plain,
-            Level::Plain if begins => Level::Escaped,
-            Level::Escaped if opens => Level::DoubleEscaped,
-            Level::DoubleEscaped if closes => Level::Escaped,
-            _ => self,
-        }
-    }
 }
 
 impl Script {
@@ -142,17 +119,21 @@ impl Script {
         }
     }
 
-    /// The level after one more character.
+    /// The level after one more character, which may end `-->`, `<!--`, or the name of `<script` or `</script`.
     #[inline(never)]
     fn level_after(self, ch: char) -> Level
         ensures { result ≡ next_level self ch }
     {
-        self.level.after(
-            self.is_marked(ch == '>', 0xFFFF, DASHES),
-            self.is_marked(ch == '-', 0xFF_FFFF, LESS_BANG_DASH),
-            self.is_marked(ends_name(ch), 0xFF_FFFF_FFFF_FFFF, LESS_SCRIPT),
-            self.is_marked(ends_name(ch), u64::MAX, LESS_SOLIDUS_SCRIPT),
-        )
+        let ends = ends_name(ch);
+        match self.level {
+            _ if self.is_marked(ch == '>', 0xFFFF, DASHES) => Level::Plain,
+            Level::Plain if self.is_marked(ch == '-', 0xFF_FFFF, LESS_BANG_DASH) => Level::Escaped,
+            Level::Escaped if self.is_marked(ends, 0xFF_FFFF_FFFF_FFFF, OPENS_SCRIPT) => {
+                Level::DoubleEscaped
+            }
+            Level::DoubleEscaped if self.is_marked(ends, u64::MAX, ENDS_SCRIPT) => Level::Escaped,
+            _ => self.level,
+        }
     }
 
     /// Whether a character that may end a mark, or a tag's name, comes after it: the last characters are these.

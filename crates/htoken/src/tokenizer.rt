@@ -1,6 +1,6 @@
 //! Characters in, tokens out: a tokenizer, and which state takes a character (HTML Standard, `#tokenization`).
 
-ghost use Rattle.std.specs.Prelude.{◌≡◌, ◌∷◌, List, [], Some, Err, IfErr, MatchBool};
+ghost use Rattle.std.specs.Prelude.{◌≡◌, ◌∷◌, List, [], Some, Err, IfErr};
 ghost use Rattle.htoken.specs.Vocabulary.{after_place, Alone, Character, EndsSpan, Entities, Event, FeedsText, Finishes, from_of, gives_item, Grows, Hands, HasTaken, HoldsFrom, IsTable, items_of, Kind, Refused, start_kind, Takes, Texts, WithNames};
 
 use crate::hand::{give_tag, hand_errors};

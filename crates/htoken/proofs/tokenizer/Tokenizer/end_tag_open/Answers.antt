@@ -1,7 +1,7 @@
-use Rattle.htoken.proofs.Names.{◌≡◌, true, not, ◌||◌, refl, arith, rules, nat_tests, MissingEndTagName, is_letter, is_greater, error, gives_item}
+use Rattle.htoken.proofs.Names.{[], ◌∷◌, ◌≡◌, true, not, ◌||◌, refl, arith, rules, nat_tests, MissingEndTagName, is_letter, is_greater, error, gives_item}
+use Rattle.htoken.proofs.Reading.{ran_out_of}
 use Rattle.htoken.proofs.Handing.{error_given}
 use Rattle.htoken.proofs.InData.{nothing_is, end_letter_follows, end_other_follows}
-use Rattle.htoken.proofs.Going.{ran_out}
 use Rattle.htoken.proofs.tokenizer.Tokenizer.end_tag_open.Goals as goal
 
 pub returns-in-62 : goal.returns-in-62
@@ -23,4 +23,4 @@ returns-in_default-2 g c = λ table start names text taken h.
 
 pub returns-in_err-begin_tag-in_default : goal.returns-in_err-begin_tag-in_default
 returns-in_err-begin_tag-in_default g c = λ table start names text taken h.
-    ran_out (gives_item g.S.ErrorSink.gives g.S.TokenSink.gives_token) table start text (record { ch = c.args.ch; at = c.args.at }) names taken _ h _ _ _ (search rules)
+    ran_out_of (gives_item g.S.ErrorSink.gives g.S.TokenSink.gives_token) table start text ((record { ch = c.args.ch; at = c.args.at }) ∷ []) names taken _ h _ _ _ (search rules)

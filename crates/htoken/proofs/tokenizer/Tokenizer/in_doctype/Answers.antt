@@ -1,8 +1,7 @@
 use Rattle.htoken.proofs.Names.{[], ◌∷◌, refl, gives_item, Placed, Takes, doctype_token, IsDoctype, HasReadDoctype, err_is}
 use Rattle.htoken.specs.declared.state.State.TheVariants as state
 use Rattle.htoken.proofs.InMarkup.{markup_stopped, markup_goes_on, markup_ends, doctype_ends}
-use Rattle.htoken.proofs.Going.{ran_out}
-use Rattle.htoken.proofs.Reading.{held_in, kind_in}
+use Rattle.htoken.proofs.Reading.{held_in, kind_in, ran_out_of}
 use Rattle.htoken.proofs.tokenizer.Tokenizer.in_doctype.Goals as goal
 
 pub returns-in_err-take_char : goal.returns-in_err-take_char
@@ -15,7 +14,7 @@ pub returns-then-branch : goal.returns-then-branch
 returns-then-branch g c = λ table start names text taken h.
     let i = held_in h state.Doctype c.requires in
     let next : Placed = record { ch = c.args.ch; at = c.args.at } in
-    doctype_ends (gives_item g.S.ErrorSink.gives g.S.TokenSink.gives_token) (λ answer s. Takes (gives_item g.S.ErrorSink.gives g.S.TokenSink.gives_token) table start text (next ∷ []) taken names c.args.sink.now answer s c.end_doctype.new.self) c.args.sink.now _ c.end_doctype.new.self _ _ (ran_out (gives_item g.S.ErrorSink.gives g.S.TokenSink.gives_token) table start text next names taken _ h _ _ _)
+    doctype_ends (gives_item g.S.ErrorSink.gives g.S.TokenSink.gives_token) (λ answer s. Takes (gives_item g.S.ErrorSink.gives g.S.TokenSink.gives_token) table start text (next ∷ []) taken names c.args.sink.now answer s c.end_doctype.new.self) c.args.sink.now _ c.end_doctype.new.self _ _ (ran_out_of (gives_item g.S.ErrorSink.gives g.S.TokenSink.gives_token) table start text (next ∷ []) names taken _ h _ _ _)
     (markup_ends g.S.ErrorSink.gives g.S.TokenSink.gives_token HasReadDoctype IsDoctype doctype_token (λ here text value at errors. (refl, refl, refl)) table start text names taken _ next h (kind_in h state.Doctype c.requires) c.args.self.now.doctype i (record c.args.self.now { doctype = c.take_char.new.self; raised = c.take_char.new.errors }) _ c.take_char.new.self _ _ _ _ (record { kind_is = refl; last_is = refl; at_is = refl; stays = (refl, refl, refl) }) (rw c.if-branch.true at (c.in_ok-take_char.ensures i.body i.own i.has_read))) c.end_doctype.ensures
 
 pub returns-else-branch : goal.returns-else-branch

@@ -1,5 +1,5 @@
 use Rattle.htoken.proofs.Names.{refl, rules, false, subst, sym, [], ◌∷◌, gives_item, Reads}
-use Rattle.htoken.proofs.Going.{ran_out}
+use Rattle.htoken.proofs.Reading.{ran_out_of}
 use Rattle.htoken.proofs.InReference.{taken_by_walk, found_with, reference_goes_on}
 use Rattle.htoken.proofs.tokenizer.Tokenizer.in_reference.Goals as goal
 
@@ -10,7 +10,7 @@ returns-in-Some g c = λ table start names text taken h.
     (subst (λ w. Reads table start (record c.args.self.now { reference = w }) names text ((record { ch = c.args.ch; at = c.args.at }) ∷ []) taken) (sym same) h)
 
 pub returns-in_err-hold_in_reference-in-None : goal.returns-in_err-hold_in_reference-in-None
-returns-in_err-hold_in_reference-in-None g c = λ table start names text taken h. ran_out (gives_item g.S.ErrorSink.gives g.S.TokenSink.gives_token) table start text (record { ch = c.args.ch; at = c.args.at }) names taken _ h _ _ _ (search rules)
+returns-in_err-hold_in_reference-in-None g c = λ table start names text taken h. ran_out_of (gives_item g.S.ErrorSink.gives g.S.TokenSink.gives_token) table start text ((record { ch = c.args.ch; at = c.args.at }) ∷ []) names taken _ h _ _ _ (search rules)
 
 pub returns-in_ok-hold_in_reference-in-None : goal.returns-in_ok-hold_in_reference-in-None
 returns-in_ok-hold_in_reference-in-None g c = λ table start names text taken h.

@@ -1,5 +1,5 @@
 use Rattle.htoken.proofs.Names.{sym, ◌∙◌, ap, Err, Refusal, gives_item, err_is}
-use Rattle.htoken.proofs.Going.{ran_out}
+use Rattle.htoken.proofs.Reading.{ran_out_of}
 use Rattle.htoken.proofs.InData.{opened_by, nothing_opens, comment_opens, doctype_opens, cdata_opens, declaration_opens, declaration_follows}
 use Rattle.htoken.proofs.tokenizer.Tokenizer.markup_declaration_open.Goals as goal
 
@@ -29,7 +29,7 @@ returns-then-not-is_plain g c = λ table start names text taken h.
     c.in_comment.ensures table start names text taken (declaration_follows (gives_item g.S.ErrorSink.gives g.S.TokenSink.gives_token) table start text (record { ch = c.args.ch; at = c.args.at }) names taken _ h c.requires.0 c.requires.1 _ (c.in_ok-begin_held.ensures.1 here.plain) (sym c.is_plain.ensures ∙ c.if-not-is_plain.true))
 
 pub returns-in_err-begin_held : goal.returns-in_err-begin_held
-returns-in_err-begin_held g c = rw (err_is c.from_residual.result _ c.from_residual.ensures.1) (λ table start names text taken h. ran_out (gives_item g.S.ErrorSink.gives g.S.TokenSink.gives_token) table start text _ names taken _ h _ _ _ (ap (λ (x : Refusal). Err x) c.in_err-begin_held.ensures))
+returns-in_err-begin_held g c = rw (err_is c.from_residual.result _ c.from_residual.ensures.1) (λ table start names text taken h. ran_out_of (gives_item g.S.ErrorSink.gives g.S.TokenSink.gives_token) table start text _ names taken _ h _ _ _ (ap (λ (x : Refusal). Err x) c.in_err-begin_held.ensures))
 
 pub returns-in_err-hold : goal.returns-in_err-hold
-returns-in_err-hold g c = rw (err_is c.from_residual-in_err-hold.result _ c.from_residual-in_err-hold.ensures.1) (λ table start names text taken h. ran_out (gives_item g.S.ErrorSink.gives g.S.TokenSink.gives_token) table start text _ names taken _ h _ _ _ (ap (λ (x : Refusal). Err x) c.in_err-hold.ensures))
+returns-in_err-hold g c = rw (err_is c.from_residual-in_err-hold.result _ c.from_residual-in_err-hold.ensures.1) (λ table start names text taken h. ran_out_of (gives_item g.S.ErrorSink.gives g.S.TokenSink.gives_token) table start text _ names taken _ h _ _ _ (ap (λ (x : Refusal). Err x) c.in_err-hold.ensures))

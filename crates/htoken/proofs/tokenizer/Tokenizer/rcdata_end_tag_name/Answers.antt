@@ -3,16 +3,16 @@ use Rattle.htoken.proofs.InTag.{reads_kept}
 use Rattle.htoken.proofs.InRaw.{letter_held, differs_here, goes_past_here, end_tag_begins}
 use Rattle.htoken.proofs.tokenizer.Tokenizer.rcdata_end_tag_name.Goals as goal
 
-pub returns-then-agrees-clause-takes : goal.returns-then-agrees-clause-takes
-returns-then-agrees-clause-takes g c = λ table start before text taken grows h.
+pub returns-then-is_read_as-clause-takes : goal.returns-then-is_read_as-clause-takes
+returns-then-is_read_as-clause-takes g c = λ table start before text taken grows h.
     let k = reads_kept table start c.args.self.now before c.args.names.now text _ taken grows h in
-    letter_held (gives_item g.S.ErrorSink.gives g.S.TokenSink.gives_token) table start text (record { ch = c.args.ch; at = c.args.at }) c.args.names.now taken _ k c.args.solidus c.requires _ _ c.in-Some.byte _ c.hold.ensures (sym c.expected.ensures ∙ c.in-Some.is) (sym c.agrees.ensures ∙ c.if-agrees.true)
+    letter_held (gives_item g.S.ErrorSink.gives g.S.TokenSink.gives_token) table start text (record { ch = c.args.ch; at = c.args.at }) c.args.names.now taken _ k c.args.solidus c.requires _ _ c.in-Some.byte _ c.hold.ensures (sym c.expected.ensures ∙ c.in-Some.is) (sym c.is_read_as.ensures ∙ c.if-is_read_as.true)
 
-pub returns-else-agrees-clause-takes : goal.returns-else-agrees-clause-takes
-returns-else-agrees-clause-takes g c = λ table start before text taken grows h.
+pub returns-else-is_read_as-clause-takes : goal.returns-else-is_read_as-clause-takes
+returns-else-is_read_as-clause-takes g c = λ table start before text taken grows h.
     let k = reads_kept table start c.args.self.now before c.args.names.now text _ taken grows h in
     c.after_held.ensures
-    (differs_here (gives_item g.S.ErrorSink.gives g.S.TokenSink.gives_token) table start text (record { ch = c.args.ch; at = c.args.at }) c.args.names.now taken _ k c.args.solidus c.requires c.in-Some.byte (sym c.expected.ensures ∙ c.in-Some.is) (sym c.agrees.ensures ∙ c.if-agrees.false)) table start c.args.names.now text taken k
+    (differs_here (gives_item g.S.ErrorSink.gives g.S.TokenSink.gives_token) table start text (record { ch = c.args.ch; at = c.args.at }) c.args.names.now taken _ k c.args.solidus c.requires c.in-Some.byte (sym c.expected.ensures ∙ c.in-Some.is) (sym c.is_read_as.ensures ∙ c.if-is_read_as.false)) table start c.args.names.now text taken k
 
 pub returns-then-ends_name-clause-takes : goal.returns-then-ends_name-clause-takes
 returns-then-ends_name-clause-takes g c = λ table start before text taken grows h.

@@ -1,5 +1,5 @@
-use Rattle.htoken.proofs.Names.{◌≡◌, true, refl, arith, rules, nat_tests, is_letter, gives_item}
-use Rattle.htoken.proofs.Going.{ran_out}
+use Rattle.htoken.proofs.Names.{[], ◌∷◌, ◌≡◌, true, refl, arith, rules, nat_tests, is_letter, gives_item}
+use Rattle.htoken.proofs.Reading.{ran_out_of}
 use Rattle.htoken.proofs.InData.{solidus_follows, bang_follows, question_follows, letter_follows}
 use Rattle.htoken.proofs.tokenizer.Tokenizer.tag_open.Goals as goal
 
@@ -28,4 +28,4 @@ returns-in_ok-begin_tag-in_default g c = λ table start names text taken h.
 
 pub returns-in_err-begin_tag-in_default : goal.returns-in_err-begin_tag-in_default
 returns-in_err-begin_tag-in_default g c = λ table start names text taken h.
-    ran_out (gives_item g.S.ErrorSink.gives g.S.TokenSink.gives_token) table start text (record { ch = c.args.ch; at = c.args.at }) names taken _ h _ _ _ (search rules)
+    ran_out_of (gives_item g.S.ErrorSink.gives g.S.TokenSink.gives_token) table start text ((record { ch = c.args.ch; at = c.args.at }) ∷ []) names taken _ h _ _ _ (search rules)
