@@ -1,11 +1,11 @@
 -- What the bytes after an `&` settle of it.
-use Rattle.charref.proofs.Names.{arith, ◌≡◌, inl, inr, ℕ, zero, suc, ◌+◌, ◌-◌, ◌≤◌, ◌<◌, min, true, false, true≢false, not, nat_eq, List, [], ◌∷◌, ◌++◌, length, take, drop, slice_get, get_or, encode_utf8_all, Option, Some, None, refl, sym, ap, ◌∙◌, subst, length-append, append_assoc, and_parts, and_from, nat_tests, take_more, length-map, is_ascii, starts_with, list_all, some_same, Placed, placed, characters, all, is_alphanumeric, is_empty, Reference, Characters, Search, Alphanumeric, Walk, Entry, Entities, IsTable, Piece, longest, is_key, is_key_name, ends_in_semicolon, code_at, IsAfterKey, IsOpenKey, OpenKey, IsSortedTable, IsRange, IsOver, EntryGoesOn, HasNone, SearchHasRead, key_bytes, IsOpenReference, IsRead, characters_of, errors_of, unknown_of, WalkHasTaken, IsOpenKeyOf, HasWalked, Settles, SettlesNothing}
+use Rattle.charref.proofs.Names.{arith, ◌≡◌, inl, inr, ℕ, ◌+◌, ◌-◌, ◌≤◌, ◌<◌, min, true, false, true≢false, not, nat_eq, List, [], ◌∷◌, ◌++◌, length, take, drop, slice_get, get_or, encode_utf8_all, Option, Some, None, refl, sym, ap, ◌∙◌, subst, length-append, append_assoc, and_parts, and_from, nat_tests, take_more, length-map, is_ascii, starts_with, list_all, some_same, Placed, placed, characters, all, is_alphanumeric, is_empty, Reference, Characters, Search, Alphanumeric, Walk, Entry, Entities, IsTable, Piece, longest, is_key, is_key_name, ends_in_semicolon, code_at, IsAfterKey, IsOpenKey, OpenKey, IsSortedTable, IsRange, IsOver, EntryGoesOn, HasNone, SearchHasRead, key_bytes, IsOpenReference, IsRead, characters_of, errors_of, unknown_of, WalkHasTaken, IsOpenKeyOf, HasWalked, Settles, SettlesNothing}
 use Rattle.std.proofs.Common.{take-take, take-append-drop}
 use Rattle.std.proofs.lemmas.List.{length-take, length-take-le, get_or-take}
 use Rattle.charref.specs.Table.{character_code}
 use Rattle.std.proofs.lemmas.Bool.{cases_lt}
 use Rattle.std.proofs.lemmas.List.Folds.{list_all_at}
-use Rattle.std.specs.Char.{len_utf8, is_ascii_alphanumeric}
+use Rattle.std.specs.Char.{len_utf8}
 use Rattle.htext.proofs.Parts.{placed-append}
 use Rattle.charref.specs.Walk.{TakesCharacter}
 use Rattle.charref.specs.AtOnce.{HasWhole}
@@ -69,10 +69,7 @@ unsettled table amp text rest found is open' reads =
     absurd (omega arith)
 
 front_placed : (at n : ℕ) (xs : List ℕ) → (rest : List Placed) × (placed at xs ≡ placed at (take n xs) ++ rest)
-front_placed at zero [] = ([], refl)
-front_placed at zero (x ∷ xs) = (placed at (x ∷ xs), refl)
-front_placed at (suc n) [] = ([], refl)
-front_placed at (suc n) (x ∷ xs) = let more = front_placed (at + len_utf8 x) n xs in (more.0, ap (λ ps. record { ch = x; at = at } ∷ ps) more.1)
+front_placed at n xs = (_, ap (placed at) (sym (take-append-drop n xs)) ∙ placed-append at (take n xs) (drop n xs))
 
 -- a walk that has taken all of the bytes, or all before one that is not ASCII
 pub nothing_settled : (walk : Walk) (table : Entities) (bytes : List ℕ) (count : ℕ) → IsTable table → HasWalked walk table bytes count → (count < length bytes → is_ascii (get_or bytes count 0) ≡ false) → SettlesNothing table bytes
@@ -88,9 +85,6 @@ nothing_settled walk table bytes count is_table walked stops n found settles =
         let least : n ≤ length bytes = settles.few in
         let size : length (take n bytes) ≡ n = length-take-le n bytes least in
         true≢false (sym settles.ascii ∙ list_all_at is_ascii (take n bytes) count 0 (omega arith) (ap is_ascii (get_or-take n bytes count 0 within) ∙ stops (omega arith)))
-
-pub letter_of_ascii : (byte : ℕ) → is_ascii_alphanumeric byte ≡ true → is_alphanumeric byte ≡ true
-letter_of_ascii byte is = grind (arith, nat_tests)
 
 -- no key begins with the first letter
 none_over : (table : Entities) (bytes : List ℕ) (low high : ℕ) → IsRange table bytes low high → low ≡ high → HasNone table bytes

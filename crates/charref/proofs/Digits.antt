@@ -1,5 +1,5 @@
 -- The table of digits, checked at each ASCII character.
-use Rattle.charref.proofs.Names.{arith, ◌≡◌, ℕ, ◌<◌, ◌≤◌, true, false, not, ◌||◌, nat_eq, nat_lt, refl, sym, ◌∙◌, subst, agree_below_at, nat_tests, is_ascii, slice_index, is_digit, Base, Decimal, Hexadecimal, is_hex_digit, digit_value, is_digit_of, radix}
+use Rattle.charref.proofs.Names.{arith, ◌≡◌, ℕ, ◌<◌, ◌≤◌, true, false, not, ◌||◌, nat_eq, nat_lt, refl, sym, ◌∙◌, subst, agree_below_at, nat_tests, is_ascii, slice_index, is_digit, is_alphanumeric, Base, Decimal, Hexadecimal, is_hex_digit, digit_value, is_digit_of, radix}
 use Rattle.charref.specs.declared.number.TheConstants.{DIGITS}
 
 abbrev pub at : ℕ → ℕ
@@ -31,3 +31,7 @@ is_one base c within below =
 
 pub is_none : (base : Base) (c : ℕ) → c < 128 → radix base ≤ at c → is_digit_of base c ≡ false
 is_none base c within over = sym (told base c within) ∙ (let t : nat_lt (at c) (radix base) ≡ false = grind (arith, nat_tests) in t)
+
+-- whether a character is a letter or digit
+pub letter_or_digit : (c : ℕ) → c < 128 → nat_lt (at c) 17 ≡ is_alphanumeric c
+letter_or_digit c within = agree_below_at (λ b. nat_lt (at b) 17) is_alphanumeric 128 c refl within

@@ -5,10 +5,8 @@ use Rattle.serde_json.specs.View.{items_view}
 
 -- a list of more than two
 pub codepoints-none : (vs : List Value) → 3 ≤ length vs → None ≡ codepoints (items_view vs)
-codepoints-none [] h = absurd (omega arith)
-codepoints-none (v ∷ []) h = absurd (omega arith)
-codepoints-none (v ∷ w ∷ []) h = absurd (omega arith)
 codepoints-none (v ∷ w ∷ x ∷ vs) h = refl
+codepoints-none _ h = absurd (omega arith)
 
 pub encode_utf8_all-append : (cs ds : List ℕ) → encode_utf8_all (cs ++ ds) ≡ encode_utf8_all cs ++ encode_utf8_all ds
 encode_utf8_all-append [] ds = refl

@@ -4,9 +4,9 @@ pub use Rattle.charref.specs.Flat.{is_one_or_two, IsReadable, flat_character, fl
 pub use Rattle.charref.specs.Front.{is_count, ends_key, is_table_entry, BeginsWith, BeginsWithNone, HasNoKey, IsOnlyKey, IsEntity, IsEntryTo, entity_to, next_place}
 pub use Rattle.charref.specs.Held.{key_bytes, IsSign, IsHeldReference, in_name, after_sign, after_x, in_number, number_sign}
 pub use Rattle.charref.specs.Last.{IsSettled, last_of, is_letter_or_digit, is_kept_before}
-pub use Rattle.charref.specs.Number.{is_digit_of, radix}
+pub use Rattle.charref.specs.Number.{is_digit_of, radix, sign_size}
 pub use Rattle.charref.specs.Open.{IsOpenReference}
-pub use Rattle.charref.specs.Pieces.{IsRead, number_reference, characters_of, errors_of, unknown_of}
+pub use Rattle.charref.specs.Pieces.{IsRead, number_reference, characters_of, errors_of, text_reference, unknown_of}
 pub use Rattle.charref.specs.Reading.{is_character, codepoints, entry_of_json, entities_of, IsRefusedWith}
 pub use Rattle.charref.specs.Reference.{Entry, Entities, is_hex_digit, digit_value, IsTable, longest, is_key, is_key_name, is_empty_list, ends_in_semicolon, is_kept_as_text, named, named_piece, longer_entry, IsReference, kept, unknown, begins_number, is_semicolon_if_any, decimal, hexadecimal, no_digits, alone, Piece, core}
 pub use Rattle.charref.specs.Table.{code_at, IsSortedTable, IsRange, IsRising, IsStart, IsIndex, SearchHasRead, best_entry, has_read_key, IsOver, EntryGoesOn, HasNone, IsParted, entry, entries, numbers_in, characters_in, key_at, IsAfterKey, IsOpenKey, AreEnds, AreMarked}
@@ -20,7 +20,7 @@ pub use Rattle.charref.specs.declared.reference.Characters.{Characters}
 pub use Rattle.charref.specs.declared.reference.Characters.TheVariants.{One}
 pub use Rattle.charref.specs.declared.reference.Reference.{Reference}
 pub use Rattle.charref.specs.declared.reference_state.ReferenceState.{ReferenceState}
-pub use Rattle.charref.specs.declared.reference_state.ReferenceState.TheVariants.{NumberSign, Number, HexadecimalSign, Name}
+pub use Rattle.charref.specs.declared.reference_state.ReferenceState.TheVariants.{Sign, Number, Name}
 pub use Rattle.charref.specs.declared.search.Search.{Search}
 pub use Rattle.charref.specs.declared.walk.Walk.{Walk}
 pub use Rattle.names.proofs.Words.{some_same, begins-append, all-one}

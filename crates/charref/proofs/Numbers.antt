@@ -1,5 +1,5 @@
 -- Numbers, digit by digit.
-use Rattle.charref.proofs.Names.{arith, ◌≡◌, ◌⊎◌, inl, inr, ℕ, ◌+◌, ◌-◌, ◌*◌, ◌≤◌, ◌<◌, min, Bool, true, false, not, ◌||◌, ◌==◌, nat_eq, nat_lt, List, [], ◌∷◌, ◌++◌, map, length, take, drop, Some, None, refl, sym, ap, ◌∙◌, subst, append_assoc, length-append, append-nil, and_parts, and_from, nat_tests, to_ascii_lowercase, all-one, begins-append, Placed, AbsenceOfDigitsInNumericCharacterReference, MissingSemicolonAfterCharacterReference, begins, stops, all, is_empty, is_digit, is_alphanumeric, error, error_if, Base, Decimal, Hexadecimal, One, NumberSign, HexadecimalSign, Number, Entities, is_hex_digit, digit_value, begins_number, is_semicolon_if_any, IsReference, decimal, hexadecimal, no_digits, alone, is_digit_of, radix, IsSign, number_sign, IsHeldReference, after_sign, after_x, in_number, IsRead, errors_of, number_reference}
+use Rattle.charref.proofs.Names.{arith, ◌≡◌, ◌⊎◌, inl, inr, ℕ, ◌+◌, ◌-◌, ◌*◌, ◌≤◌, ◌<◌, min, Bool, true, false, not, ◌||◌, ◌==◌, nat_eq, nat_lt, List, [], ◌∷◌, ◌++◌, map, length, take, drop, Some, None, refl, sym, ap, ◌∙◌, subst, append_assoc, length-append, append-nil, and_parts, and_from, nat_tests, to_ascii_lowercase, all-one, begins-append, Placed, AbsenceOfDigitsInNumericCharacterReference, MissingSemicolonAfterCharacterReference, begins, stops, all, is_empty, is_digit, is_alphanumeric, error, error_if, Base, Decimal, Hexadecimal, One, Sign, sign_size, text_reference, Number, Entities, is_hex_digit, digit_value, begins_number, is_semicolon_if_any, IsReference, decimal, hexadecimal, no_digits, alone, is_digit_of, radix, IsSign, number_sign, IsHeldReference, after_sign, after_x, in_number, IsRead, errors_of, number_reference}
 use Rattle.std.proofs.Common.{option_to_list}
 use Rattle.std.proofs.Math.Bool.{and-false}
 use Rattle.std.proofs.Math.Nat.{zero-mul}
@@ -11,42 +11,48 @@ use Rattle.charref.proofs.Telling.{no_run, read_text}
 
 -- SIGNS
 
-pub one_number_sign : (table : Entities) (in_value : Bool) (p : Placed) → p.ch ≡ 35 → IsHeldReference table in_value NumberSign (p ∷ [])
+pub one_number_sign : (table : Entities) (in_value : Bool) (p : Placed) → p.ch ≡ 35 → IsHeldReference table in_value (Sign Decimal) (p ∷ [])
 one_number_sign table in_value p is = after_sign (p ∷ []) (number_sign p is)
 
-pub two_signs : (table : Entities) (in_value : Bool) (text : List Placed) (p : Placed) → IsSign Decimal text → (p.ch ≡ 120) ⊎ (p.ch ≡ 88) → IsHeldReference table in_value HexadecimalSign (text ++ p ∷ [])
+pub two_signs : (table : Entities) (in_value : Bool) (text : List Placed) (p : Placed) → IsSign Decimal text → (p.ch ≡ 120) ⊎ (p.ch ≡ 88) → IsHeldReference table in_value (Sign Hexadecimal) (text ++ p ∷ [])
 two_signs table in_value _ p (number_sign q is) (inl x) = after_x (q ∷ p ∷ []) (small_x q p is x)
 two_signs table in_value _ p (number_sign q is) (inr x) = after_x (q ∷ p ∷ []) (capital_x q p is x)
 
 begins_sign : (q : Placed) (rest : List Placed) → q.ch ≡ 35 → begins (λ c. c == 35) (q ∷ rest) ≡ true
 begins_sign q rest is = grind (arith, nat_tests)
 
--- nothing but `#`, or `#x`, and then no digit
-no_number : (table : Entities) (in_value : Bool) (q : Placed) (others after : List Placed) → q.ch ≡ 35 → begins_number (q ∷ (others ++ after)) ≡ false
-    → IsRead table in_value (q ∷ others) after (record { characters = One 38; left = length (q ∷ others); missing_semicolon = false; fault = Some AbsenceOfDigitsInNumericCharacterReference; is_ambiguous = false })
-no_number table in_value q others after is none = read_text table in_value (q ∷ others) after _ refl refl (λ amp amp-is. no_digits amp amp-is (begins_sign q (others ++ after) is) none refl)
-
-pub no_decimal : (table : Entities) (in_value : Bool) (text after : List Placed) (p : Placed) → IsSign Decimal text → is_digit p.ch ≡ false → nat_eq p.ch 120 ≡ false → nat_eq p.ch 88 ≡ false
-    → IsRead table in_value (text ++ p ∷ []) after (record { characters = One 38; left = 2; missing_semicolon = false; fault = Some AbsenceOfDigitsInNumericCharacterReference; is_ambiguous = false })
-no_decimal table in_value _ after p (number_sign q is) digit x capital =
-    no_number table in_value q (p ∷ []) after is (let first : nat_eq q.ch 35 ≡ true = grind (arith, nat_tests) in rw (first, digit, x, capital) refl)
-
-pub no_sign : (table : Entities) (in_value : Bool) (text : List Placed) → IsSign Decimal text
-    → IsRead table in_value text [] (record { characters = One 38; left = 1; missing_semicolon = false; fault = Some AbsenceOfDigitsInNumericCharacterReference; is_ambiguous = false })
-no_sign table in_value _ (number_sign q is) = no_number table in_value q [] [] is (let first : nat_eq q.ch 35 ≡ true = grind (arith, nat_tests) in rw first refl)
-
 no_number_after : (q r : Placed) (rest : List Placed) → q.ch ≡ 35 → is_digit r.ch ≡ false → begins is_hex_digit rest ≡ false → begins_number (q ∷ r ∷ rest) ≡ false
 no_number_after q r rest is digit hex = let first : nat_eq q.ch 35 ≡ true = grind (arith, nat_tests) in rw (first, digit, hex) (and-false (nat_eq r.ch 120 || nat_eq r.ch 88))
 
-pub no_hexadecimal : (table : Entities) (in_value : Bool) (text after : List Placed) (p : Placed) → IsSign Hexadecimal text → is_hex_digit p.ch ≡ false
-    → IsRead table in_value (text ++ p ∷ []) after (record { characters = One 38; left = 3; missing_semicolon = false; fault = Some AbsenceOfDigitsInNumericCharacterReference; is_ambiguous = false })
-no_hexadecimal table in_value _ after p (small_x q r is x) digit = no_number table in_value q (r ∷ p ∷ []) after is (no_number_after q r (p ∷ after) is (ap is_digit x) digit)
-no_hexadecimal table in_value _ after p (capital_x q r is x) digit = no_number table in_value q (r ∷ p ∷ []) after is (no_number_after q r (p ∷ after) is (ap is_digit x) digit)
+-- nothing but `#`, or `#x`, and then no digit
+abbrev pub IsNoDigit : Base → List Placed → Type 0
+IsNoDigit Decimal rest = (begins is_digit rest ≡ false) × (begins (λ c. c == 120 || c == 88) rest ≡ false)
+IsNoDigit Hexadecimal rest = begins is_hex_digit rest ≡ false
 
-pub no_x : (table : Entities) (in_value : Bool) (text : List Placed) → IsSign Hexadecimal text
-    → IsRead table in_value text [] (record { characters = One 38; left = 2; missing_semicolon = false; fault = Some AbsenceOfDigitsInNumericCharacterReference; is_ambiguous = false })
-no_x table in_value _ (small_x q r is x) = no_number table in_value q (r ∷ []) [] is (no_number_after q r [] is (ap is_digit x) refl)
-no_x table in_value _ (capital_x q r is x) = no_number table in_value q (r ∷ []) [] is (no_number_after q r [] is (ap is_digit x) refl)
+pub first_no_digit : (base : Base) (p : Placed) (after : List Placed) → is_digit_of base p.ch ≡ false → (base ≡ Decimal → (p.ch == 120 || p.ch == 88) ≡ false) → IsNoDigit base (p ∷ after)
+first_no_digit Decimal p after digit mark = (digit, mark refl)
+first_no_digit Hexadecimal p after digit mark = digit
+
+module _ (table : Entities) (in_value : Bool) (others after : List Placed) where
+  no_number : (q : Placed) (text : List Placed) (left : ℕ) → q.ch ≡ 35 → begins_number (q ∷ (text ++ after)) ≡ false → left ≡ length (q ∷ text)
+      → IsRead table in_value (q ∷ text) after (text_reference left (Some AbsenceOfDigitsInNumericCharacterReference) false)
+  no_number q text left is none size = read_text table in_value (q ∷ text) after _ size refl (λ amp amp-is. no_digits amp amp-is (begins_sign q (text ++ after) is) none refl)
+
+  pub no_digits_after : (base : Base) (sign : List Placed) → IsSign base sign → IsNoDigit base (others ++ after)
+      → IsRead table in_value (sign ++ others) after (text_reference (sign_size base + length others) (Some AbsenceOfDigitsInNumericCharacterReference) false)
+  no_digits_after Decimal _ (number_sign q is) none =
+      let first : nat_eq q.ch 35 ≡ true = grind (arith, nat_tests) in
+      no_number q others _ is (rw (first, none.0, none.1) refl) (omega arith)
+  no_digits_after Hexadecimal _ (small_x q r is x) none = no_number q (r ∷ others) _ is (no_number_after q r (others ++ after) is (ap is_digit x) none) (omega arith)
+  no_digits_after Hexadecimal _ (capital_x q r is x) none = no_number q (r ∷ others) _ is (no_number_after q r (others ++ after) is (ap is_digit x) none) (omega arith)
+
+pub no_digits_at_end : (table : Entities) (in_value : Bool) (base : Base) (sign : List Placed) → IsSign base sign → IsRead table in_value sign [] (text_reference (sign_size base + 0) (Some AbsenceOfDigitsInNumericCharacterReference) false)
+no_digits_at_end table in_value base sign is =
+    subst (λ xs. IsRead table in_value xs [] (text_reference (sign_size base + 0) (Some AbsenceOfDigitsInNumericCharacterReference) false)) (append-nil sign) (no_digits_after table in_value [] [] base sign is (none base))
+  where
+    none : (base : Base) → IsNoDigit base []
+    none Decimal = (refl, refl)
+    none Hexadecimal = refl
 
 -- an `&` before something else, or before nothing
 pub alone_before : (table : Entities) (in_value : Bool) (p : Placed) (after : List Placed) → is_alphanumeric p.ch ≡ false → nat_eq p.ch 35 ≡ false

@@ -106,8 +106,6 @@ number_tests a b c d e (inr second) = rw (e, second.0, second.1) (or-true b)
 module _ (table : Entities) (in_value : Bool) (rest : List Placed) where
   decimal_is : (opening digits close : List Placed) → characters opening ≡ codes "&#" → begins is_digit digits ≡ true → RunsTo (λ c. not (is_digit c)) digits (close ++ rest) → is_semicolon_if_any close rest ≡ true
       → read table in_value (opening ++ (digits ++ (close ++ rest))) ≡ (numeric_piece 10 opening digits close, rest)
-  decimal_is [] digits close o d r s = absurd cc
-  decimal_is (a ∷ []) digits close o d r s = absurd cc
   decimal_is (a ∷ q ∷ []) digits close o d r s =
       let is : q.ch ≡ 35 = cc in
       let sign : (q.ch == 35) ≡ true = ap (λ (c : ℕ). c == 35) is in
@@ -116,13 +114,10 @@ module _ (table : Entities) (in_value : Bool) (rest : List Placed) where
       by_tests table in_value a (q ∷ more) false true true true (sign_no_letter q.ch sign) sign
       (number_tests (q.ch == 35) (begins is_digit more) (begins (λ c. c == 120 || c == 88) more) (begins is_hex_digit (drop 1 more)) sign (inl digit)) digit
       ∙ number_is 10 (a ∷ q ∷ []) is_digit digits close rest r s
-  decimal_is (a ∷ q ∷ x ∷ xs) digits close o d r s = absurd cc
+  decimal_is _ digits close o d r s = absurd cc
 
   hexadecimal_is : (opening digits close : List Placed) → lowered opening ≡ codes "&#x" → begins is_hex_digit digits ≡ true → RunsTo (λ c. not (is_hex_digit c)) digits (close ++ rest) → is_semicolon_if_any close rest ≡ true
       → read table in_value (opening ++ (digits ++ (close ++ rest))) ≡ (numeric_piece 16 opening digits close, rest)
-  hexadecimal_is [] digits close o d r s = absurd cc
-  hexadecimal_is (a ∷ []) digits close o d r s = absurd cc
-  hexadecimal_is (a ∷ q ∷ []) digits close o d r s = absurd cc
   hexadecimal_is (a ∷ q ∷ x ∷ []) digits close o d r s =
       let low : to_ascii_lowercase q.ch ≡ 35 = cc in
       let is : q.ch ≡ 35 = lower_sign q.ch low in
@@ -134,7 +129,7 @@ module _ (table : Entities) (in_value : Bool) (rest : List Placed) where
       by_tests table in_value a (q ∷ x ∷ more) false true true false (sign_no_letter q.ch sign) sign
       (number_tests (q.ch == 35) (is_digit x.ch) (x.ch == 120 || x.ch == 88) (begins is_hex_digit more) sign (inr (marks.0, digit))) marks.1
       ∙ number_is 16 (a ∷ q ∷ x ∷ []) is_hex_digit digits close rest r s
-  hexadecimal_is (a ∷ q ∷ x ∷ y ∷ ys) digits close o d r s = absurd cc
+  hexadecimal_is _ digits close o d r s = absurd cc
 
   named_is : (amp : Placed) (name : List Placed) (entry : Entry) → begins is_alphanumeric name ≡ true → longest table (characters (amp ∷ name ++ rest)) ≡ Some entry → characters (amp ∷ name) ≡ entry.key → is_kept_as_text in_value entry.key rest ≡ false
       → read table in_value (amp ∷ name ++ rest) ≡ (named_piece (amp ∷ name) entry, rest)

@@ -1,9 +1,9 @@
 -- A walk outside of a value goes on only while what it has taken may become a reference.
-use Rattle.charref.proofs.Names.{arith, ◌≡◌, ℕ, ◌<◌, true, false, List, [], ◌∷◌, ◌++◌, map, length, drop, Some, refl, sym, ap, ◌∙◌, append_assoc, append-nil, map-append, and_parts, slice_get_within, get_or_from_slice_get, Placed, characters, all, is_empty, is_alphanumeric, Base, Decimal, Hexadecimal, ReferenceState, NumberSign, Number, Walk, Entry, Entities, IsTable, longest, named, named_piece, EntryGoesOn, key_bytes, IsSign, IsHeldReference, in_name, after_sign, after_x, in_number, IsOpenReference, IsRead, number_reference, WalkHasTaken}
+use Rattle.charref.proofs.Names.{arith, ◌≡◌, ℕ, ◌<◌, true, false, List, [], ◌∷◌, ◌++◌, map, length, drop, Some, refl, sym, ap, ◌∙◌, append_assoc, append-nil, map-append, and_parts, slice_get_within, get_or_from_slice_get, Placed, characters, all, is_empty, is_alphanumeric, Base, Decimal, Hexadecimal, ReferenceState, number_sign, Number, Walk, Entry, Entities, IsTable, longest, named, named_piece, EntryGoesOn, key_bytes, IsSign, IsHeldReference, in_name, after_sign, after_x, in_number, IsOpenReference, IsRead, number_reference, WalkHasTaken}
 use Rattle.charref.proofs.Core.{has_found}
 use Rattle.charref.proofs.Naming.{rest_of_key}
 use Rattle.std.proofs.lemmas.List.{take_all}
-use Rattle.charref.proofs.Numbers.{one_number_sign, first_digit, number_closed}
+use Rattle.charref.proofs.Numbers.{first_digit, number_closed}
 
 at_once : ℕ → Placed
 at_once c = record { ch = c; at = 0 }
@@ -70,10 +70,7 @@ open_key table amp q qs is_table is letter goes =
 
 open_name : (table : Entities) (amp : Placed) (text : List Placed) → IsTable table → amp.ch ≡ 38 → all is_alphanumeric text ≡ true → (is_empty text ≡ false → EntryGoesOn table (key_bytes text)) → IsOpenReference table amp text
 unfolding at_once
-open_name table amp [] is_table is run goes = open_before table amp [] (at_once 35) (open_held (one_number_sign table false (at_once 35) refl))
-  where
-    open_held : IsHeldReference table false NumberSign (at_once 35 ∷ []) → IsOpenReference table amp (at_once 35 ∷ [])
-    open_held (after_sign text sign) = open_sign table amp Decimal text is sign
+open_name table amp [] is_table is run goes = open_before table amp [] (at_once 35) (open_sign table amp Decimal (at_once 35 ∷ []) is (number_sign (at_once 35) refl))
 open_name table amp (q ∷ qs) is_table is run goes = open_key table amp q qs is_table is (and_parts _ _ run).0 (goes refl)
 
 open_held : (table : Entities) (amp : Placed) (state : ReferenceState) (text : List Placed) → IsTable table → amp.ch ≡ 38 → IsHeldReference table false state text → IsOpenReference table amp text

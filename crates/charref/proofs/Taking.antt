@@ -1,14 +1,12 @@
 -- A walk and what it has been handed.
-use Rattle.charref.proofs.Names.{◌≡◌, Bool, true, List, sym, subst, Placed, all, is_alphanumeric, Decimal, Hexadecimal, Search, ReferenceState, Name, NumberSign, HexadecimalSign, Walk, Entities, SearchHasRead, key_bytes, IsSign, IsHeldReference, in_name, after_sign, after_x, WalkHasTaken}
+use Rattle.charref.proofs.Names.{◌≡◌, Bool, true, List, sym, subst, Placed, all, is_alphanumeric, Base, Search, ReferenceState, Name, Sign, Walk, Entities, SearchHasRead, key_bytes, IsSign, IsHeldReference, in_name, after_sign, after_x, WalkHasTaken}
 
 pub held_name : (table : Entities) (in_value : Bool) (search : Search) (text : List Placed) → IsHeldReference table in_value (Name search) text → SearchHasRead search table (key_bytes text) × (all is_alphanumeric text ≡ true)
 held_name table in_value _ _ (in_name search text read run goes) = (read, run)
 
-pub held_sign : (table : Entities) (in_value : Bool) (text : List Placed) → IsHeldReference table in_value NumberSign text → IsSign Decimal text
-held_sign table in_value _ (after_sign text is) = is
-
-pub held_x : (table : Entities) (in_value : Bool) (text : List Placed) → IsHeldReference table in_value HexadecimalSign text → IsSign Hexadecimal text
-held_x table in_value _ (after_x text is) = is
+pub held_sign : (table : Entities) (in_value : Bool) (base : Base) (text : List Placed) → IsHeldReference table in_value (Sign base) text → IsSign base text
+held_sign table in_value _ _ (after_sign text is) = is
+held_sign table in_value _ _ (after_x text is) = is
 
 -- by the walk's own table, in the state that it is in
 pub own : (walk : Walk) (table : Entities) (in_value : Bool) (text : List Placed) (state : ReferenceState) → WalkHasTaken walk table in_value text → walk.state ≡ state → IsHeldReference walk.table.now walk.in_value state text

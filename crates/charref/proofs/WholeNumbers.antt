@@ -3,7 +3,7 @@ use Rattle.charref.proofs.Names.{arith, ◌≡◌, ℕ, ◌+◌, ◌*◌, ◌≤
 use Rattle.std.proofs.Math.Nat.{zero-mul}
 use Rattle.charref.specs.AtOnce.{HasSign}
 use Rattle.charref.proofs.Numbers.{two_signs, first_digit, next_digit, number_closed}
-use Rattle.charref.proofs.Taking.{held_x}
+use Rattle.charref.proofs.Taking.{held_sign}
 use Rattle.charref.proofs.AtOnce.{last_at, more_bytes}
 use Rattle.charref.proofs.Fronts.{run_more}
 
@@ -24,7 +24,7 @@ x_taken bytes x before within same is = record {
   few = omega arith;
   ascii = run_more is_ascii bytes 1 within before.ascii (x_ascii (get_or bytes 1 0) (subst (λ c. (c ≡ 120) ⊎ (c ≡ 88)) same is));
   sign = λ at. subst (IsSign Hexadecimal) (sym (more_bytes bytes 1 within at))
-      (held_x [] false (placed at (take 1 bytes) ++ last_at at bytes 1 ∷ []) (two_signs [] false (placed at (take 1 bytes)) (last_at at bytes 1) (before.sign at) (subst (λ c. (c ≡ 120) ⊎ (c ≡ 88)) same is)));
+      (held_sign [] false Hexadecimal (placed at (take 1 bytes) ++ last_at at bytes 1 ∷ []) (two_signs [] false (placed at (take 1 bytes)) (last_at at bytes 1) (before.sign at) (subst (λ c. (c ≡ 120) ⊎ (c ≡ 88)) same is)));
 }
 
 -- DIGITS

@@ -6,7 +6,7 @@ use Rattle.charref.specs.declared.number.Base.{Base}
 use Rattle.charref.specs.declared.number.Base.TheVariants.{Decimal, Hexadecimal}
 use Rattle.charref.specs.declared.search.Search.{Search}
 use Rattle.charref.specs.declared.reference_state.ReferenceState.{ReferenceState}
-use Rattle.charref.specs.declared.reference_state.ReferenceState.TheVariants.{Name, NumberSign, HexadecimalSign, Number}
+use Rattle.charref.specs.declared.reference_state.ReferenceState.TheVariants.{Name, Sign, Number}
 use Rattle.charref.specs.Reference.{Entities, number_from}
 use Rattle.charref.specs.Number.{is_digit_of, radix}
 use Rattle.charref.specs.Table.{EntryGoesOn, SearchHasRead, is_search_within}
@@ -14,15 +14,13 @@ use Rattle.charref.specs.Table.{EntryGoesOn, SearchHasRead, is_search_within}
 -- whether a state's search stays within a table with this many entries, and its number within what is stored
 abbrev pub is_within : ReferenceState → ℕ → Bool
 is_within (Name search) count = is_search_within search count
-is_within NumberSign count = true
-is_within HexadecimalSign count = true
+is_within (Sign base) count = true
 is_within (Number base value) count = nat_le value 0x110000
 
 -- whether digits of a number have been read
 abbrev pub is_number : ReferenceState → Bool
 is_number (Name search) = false
-is_number NumberSign = false
-is_number HexadecimalSign = false
+is_number (Sign base) = false
 is_number (Number base value) = true
 
 -- what of the text taken may be read again: nothing of a number, which is a reference whatever follows
@@ -43,8 +41,8 @@ pub data IsSign : Base → List Placed → Type 0 where
 pub data IsHeldReference (table : Entities) (in_value : Bool) : ReferenceState → List Placed → Type 0 where
   in_name : (search : Search) (text : List Placed) → SearchHasRead search table (key_bytes text) → all is_alphanumeric text ≡ true
       → (in_value ≡ false → is_empty text ≡ false → EntryGoesOn table (key_bytes text)) → IsHeldReference table in_value (Name search) text
-  after_sign : (text : List Placed) → IsSign Decimal text → IsHeldReference table in_value NumberSign text
-  after_x : (text : List Placed) → IsSign Hexadecimal text → IsHeldReference table in_value HexadecimalSign text
+  after_sign : (text : List Placed) → IsSign Decimal text → IsHeldReference table in_value (Sign Decimal) text
+  after_x : (text : List Placed) → IsSign Hexadecimal text → IsHeldReference table in_value (Sign Hexadecimal) text
   in_number : (base : Base) (value : ℕ) (sign digits text : List Placed) → text ≡ sign ++ digits → IsSign base sign
       → begins (is_digit_of base) digits ≡ true → all (is_digit_of base) digits ≡ true
       → value ≡ min (number_from 0 (radix base) digits) 0x110000 → IsHeldReference table in_value (Number base value) text

@@ -12,3 +12,8 @@ is_digit_of Hexadecimal = is_hex_digit
 abbrev pub radix : Base → ℕ
 radix Decimal = 10
 radix Hexadecimal = 16
+
+-- how many characters stand before the digits: `#`, or `#x`
+abbrev pub sign_size : Base → ℕ
+sign_size Decimal = 1
+sign_size Hexadecimal = 2

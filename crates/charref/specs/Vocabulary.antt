@@ -4,7 +4,7 @@ pub use Rattle.charref.specs.Flat.{flat_character, flat_characters, flat_entry, 
 pub use Rattle.charref.specs.Front.{BeginsWith, BeginsWithNone, HasNoKey, is_table_entry, IsEntity, IsEntryTo, IsOnlyKey}
 pub use Rattle.charref.specs.Held.{is_number, IsHeldReference, IsSign, key_bytes}
 pub use Rattle.charref.specs.Last.{goes_on_name, is_kept_before, is_letter_or_digit, IsSettled, last_of}
-pub use Rattle.charref.specs.Number.{is_digit_of, radix}
+pub use Rattle.charref.specs.Number.{is_digit_of, radix, sign_size}
 pub use Rattle.charref.specs.Open.{HasReference, IsOpenReference}
 pub use Rattle.charref.specs.Pieces.{characters_of, IsRead, number_reference, text_reference, unknown_of}
 pub use Rattle.charref.specs.Reading.{codepoint, codepoints, entities_of, entry_of_json, entry_of_characters, fields, is_character, IsRefusedWith, table_of_json, table_of_members}

@@ -5,7 +5,7 @@ ghost use Rattle.charref.specs.Vocabulary.{is_ascii, list_all, Placed, placed, I
 
 use crate::flat::Flat;
 use crate::last::Last;
-use crate::number::Base;
+use crate::number::{Base, is_alphanumeric};
 use crate::reference::Reference;
 use crate::search::Search;
 use crate::slots::is_whole;
@@ -34,7 +34,7 @@ impl<'t> Walk<'t> {
             )
         {
             if search.is_over() {
-                if first.is_ascii_alphanumeric() {
+                if is_alphanumeric(*first) {
                     return Some((unknown(1, Last::Alphanumeric), 1));
                 }
             } else if let Some(place) = whole_place(table, search, bytes) {

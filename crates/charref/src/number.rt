@@ -1,7 +1,7 @@
 //! The characters of numeric references (HTML Standard, from `#numeric-character-reference-state` on).
 
 ghost use Rattle.std.specs.Prelude.{◌≡◌, ◌+◌, ◌*◌, ◌≤◌, ◌<◌, true, false, min, MatchOption};
-ghost use Rattle.charref.specs.Vocabulary.{numbered, number_fault, replaced, replacements, digit_value, is_digit_of, radix};
+ghost use Rattle.charref.specs.Vocabulary.{numbered, number_fault, replaced, replacements, digit_value, is_alphanumeric, is_digit_of, radix};
 
 use names::{ErrorCode, is_noncharacter};
 
@@ -15,15 +15,27 @@ pub(crate) enum Base {
 /// One more than the greatest code point. Greater numbers mean the same, and are stored as this one.
 pub(crate) const TOO_GREAT: u32 = 0x11_0000;
 
-/// The value of each ASCII character as a digit; 16 where it is none. A table, since what is read next cannot be foretold.
+/// The value of each ASCII character as a hexadecimal digit; 16 for another letter, and 17 for what is neither. A table, since what is read
+/// next cannot be foretold.
 const DIGITS: [u8; 128] = [
-    16, 16, 16, 16, 16, 16, 16, 16, 16, 16, 16, 16, 16, 16, 16, 16, 16, 16, 16, 16, 16, 16, 16, 16,
-    16, 16, 16, 16, 16, 16, 16, 16, 16, 16, 16, 16, 16, 16, 16, 16, 16, 16, 16, 16, 16, 16, 16, 16,
-    0, 1, 2, 3, 4, 5, 6, 7, 8, 9, 16, 16, 16, 16, 16, 16, 16, 10, 11, 12, 13, 14, 15, 16, 16, 16,
-    16, 16, 16, 16, 16, 16, 16, 16, 16, 16, 16, 16, 16, 16, 16, 16, 16, 16, 16, 16, 16, 16, 16, 10,
+    17, 17, 17, 17, 17, 17, 17, 17, 17, 17, 17, 17, 17, 17, 17, 17, 17, 17, 17, 17, 17, 17, 17, 17,
+    17, 17, 17, 17, 17, 17, 17, 17, 17, 17, 17, 17, 17, 17, 17, 17, 17, 17, 17, 17, 17, 17, 17, 17,
+    0, 1, 2, 3, 4, 5, 6, 7, 8, 9, 17, 17, 17, 17, 17, 17, 17, 10, 11, 12, 13, 14, 15, 16, 16, 16,
+    16, 16, 16, 16, 16, 16, 16, 16, 16, 16, 16, 16, 16, 16, 16, 16, 16, 17, 17, 17, 17, 17, 17, 10,
     11, 12, 13, 14, 15, 16, 16, 16, 16, 16, 16, 16, 16, 16, 16, 16, 16, 16, 16, 16, 16, 16, 16, 16,
-    16, 16, 16, 16, 16, 16,
+    16, 17, 17, 17, 17, 17,
 ];
+
+/// Whether this is an ASCII letter or digit.
+#[inline(always)]
+pub(crate) fn is_alphanumeric(byte: u8) -> bool
+    ensures { result ≡ is_alphanumeric byte }
+{
+    if !byte.is_ascii() {
+        return false;
+    }
+    DIGITS[usize::from(byte)] < 17
+}
 
 impl Base {
     fn radix(self) -> u32

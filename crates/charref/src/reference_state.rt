@@ -9,11 +9,10 @@ pub(crate) enum ReferenceState {
     /// The character reference state (`#character-reference-state`), and after a letter or digit the named character reference state
     /// (`#named-character-reference-state`).
     Name(Search),
-    /// The numeric character reference state (`#numeric-character-reference-state`), and with it the decimal character reference start
-    /// state (`#decimal-character-reference-start-state`), which takes the same character.
-    NumberSign,
-    /// The hexadecimal character reference start state (`#hexadecimal-character-reference-start-state`).
-    HexadecimalSign,
+    /// After `#` the numeric character reference state (`#numeric-character-reference-state`), and with it the decimal character reference
+    /// start state (`#decimal-character-reference-start-state`), which takes the same character; after `#x` the hexadecimal character
+    /// reference start state (`#hexadecimal-character-reference-start-state`).
+    Sign(Base),
     /// The hexadecimal or decimal character reference state (`#hexadecimal-character-reference-state`,
     /// `#decimal-character-reference-state`), with the number so far.
     Number(Base, u32),

@@ -1,7 +1,7 @@
 //! The steps of a walk.
 
 ghost use Rattle.std.specs.Prelude.{◌≡◌, ◌+◌, [], ◌∷◌, ◌++◌, Bool, true, false, ◌&&◌, ℕ, List, length, Some, IfSome, IsSome, IsNone, MatchOption, ◌<◌, ◌≤◌};
-ghost use Rattle.charref.specs.Vocabulary.{Placed, all, is_empty, is_alphanumeric, Entities, IsTable, longest, ends_in_semicolon, best_entry, is_search_within, has_read_key, SearchHasRead, HasNone, key_bytes, is_number, IsHeldReference, IsSign, last_of, IsSettled, IsRead, text_reference, unknown_of, number_reference, WalkHasTaken, TakesCharacter, NextIs, LeavesLast, StaysNumber, is_next_within};
+ghost use Rattle.charref.specs.Vocabulary.{Placed, all, is_empty, is_alphanumeric, Entities, IsTable, longest, ends_in_semicolon, best_entry, is_search_within, has_read_key, SearchHasRead, HasNone, key_bytes, is_number, IsHeldReference, IsSign, sign_size, last_of, IsSettled, IsRead, text_reference, unknown_of, number_reference, WalkHasTaken, TakesCharacter, NextIs, LeavesLast, StaysNumber, is_next_within};
 
 use crate::last::{Last, is_kept};
 use crate::number::{Base, TOO_GREAT, number_fault, numbered};
@@ -73,8 +73,7 @@ impl<'t> Walk<'t> {
     {
         match self.state {
             ReferenceState::Name(search) => after_name(self.table, self.in_value, search, ch),
-            ReferenceState::NumberSign => after_sign(ch),
-            ReferenceState::HexadecimalSign => after_x(ch),
+            ReferenceState::Sign(base) => after_sign(base, ch),
             ReferenceState::Number(base, value) => after_digits(base, value, ch),
         }
     }
@@ -87,8 +86,7 @@ impl<'t> Walk<'t> {
     {
         match self.state {
             ReferenceState::Name(search) => name_at_end(self.table, self.in_value, search),
-            ReferenceState::NumberSign => no_digits(1),
-            ReferenceState::HexadecimalSign => no_digits(2),
+            ReferenceState::Sign(base) => no_digits(base, 0),
             ReferenceState::Number(_, value) => number(value, 0, true),
         }
     }
@@ -107,12 +105,17 @@ fn as_text(left: usize, fault: Option<ErrorCode>, is_ambiguous: bool) -> Referen
     }
 }
 
-/// An `&` that is text because no digit follows `#` or `#x`.
-fn no_digits(left: usize) -> Reference
-    ensures { result ≡ text_reference left (Some ErrorCode.AbsenceOfDigitsInNumericCharacterReference) false }
+/// An `&` that is text because no digit follows `#` or `#x`, where so many `others` were read after that.
+fn no_digits(base: Base, others: usize) -> Reference
+    requires { others ≤ 1 }
+    ensures { result ≡ text_reference (sign_size base + others) (Some ErrorCode.AbsenceOfDigitsInNumericCharacterReference) false }
 {
+    let sign = match base {
+        Base::Decimal => 1,
+        Base::Hexadecimal => 2,
+    };
     as_text(
-        left,
+        sign + others,
         Some(ErrorCode::AbsenceOfDigitsInNumericCharacterReference),
         false,
     )
@@ -183,31 +186,25 @@ pub(crate) fn number(value: u32, left: usize, missing_semicolon: bool) -> Refere
     }
 }
 
-/// After `#` (`#numeric-character-reference-state`, `#decimal-character-reference-start-state`).
+/// After `#` (`#numeric-character-reference-state`, `#decimal-character-reference-start-state`), or `#x`
+/// (`#hexadecimal-character-reference-start-state`).
 #[inline(always)]
-fn after_sign(ch: char) -> Next
+fn after_sign(base: Base, ch: char) -> Next
     ensures within { (count : ℕ) → is_next_within result count ≡ true }
-    ensures next { (table : Entities) (in_value : Bool) (text : List Placed) (p : Placed) → IsSign Base.Decimal text
+    ensures next { (table : Entities) (in_value : Bool) (text : List Placed) (p : Placed) → IsSign base text
         → p.ch ≡ ch → NextIs table in_value (text ++ p ∷ []) result }
 {
-    if ch == 'x' || ch == 'X' {
-        return Next::Goes(ReferenceState::HexadecimalSign);
+    match base {
+        Base::Decimal => {
+            if ch == 'x' || ch == 'X' {
+                return Next::Goes(ReferenceState::Sign(Base::Hexadecimal));
+            }
+        }
+        Base::Hexadecimal => {}
     }
-    match Base::Decimal.digit(ch) {
-        Some(digit) => Next::Goes(ReferenceState::Number(Base::Decimal, digit)),
-        None => Next::Ended(no_digits(2)),
-    }
-}
-
-/// After `#x` (`#hexadecimal-character-reference-start-state`).
-fn after_x(ch: char) -> Next
-    ensures within { (count : ℕ) → is_next_within result count ≡ true }
-    ensures next { (table : Entities) (in_value : Bool) (text : List Placed) (p : Placed) → IsSign Base.Hexadecimal text
-        → p.ch ≡ ch → NextIs table in_value (text ++ p ∷ []) result }
-{
-    match Base::Hexadecimal.digit(ch) {
-        Some(digit) => Next::Goes(ReferenceState::Number(Base::Hexadecimal, digit)),
-        None => Next::Ended(no_digits(3)),
+    match base.digit(ch) {
+        Some(digit) => Next::Goes(ReferenceState::Number(base, digit)),
+        None => Next::Ended(no_digits(base, 1)),
     }
 }
 
@@ -273,7 +270,7 @@ fn after_name(table: &Table, in_value: bool, search: Search, ch: char) -> Next
     let last = Last::of(ch);
     if search.depth == 1 && !last.is_alphanumeric() {
         if ch == '#' {
-            return Next::Goes(ReferenceState::NumberSign);
+            return Next::Goes(ReferenceState::Sign(Base::Decimal));
         }
         return Next::Ended(as_text(1, None, false));
     }

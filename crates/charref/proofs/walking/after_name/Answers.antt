@@ -1,4 +1,4 @@
-use Rattle.charref.proofs.Names.{arith, nat_tests, nat_eq, NumberSign, IsRead, ◌≡◌, [], ◌∷◌, ◌++◌, true, false, true≢false, ◌&&◌, refl, sym, ap, ◌∙◌, subst, ◌≤◌, length, all-one, characters, is_empty, is_alphanumeric, Entities, IsTable, has_read_key, SearchHasRead, HasNone, IsOver, key_bytes, in_name, last_of, is_letter_or_digit, NextIs}
+use Rattle.charref.proofs.Names.{arith, nat_tests, nat_eq, Decimal, Sign, IsRead, ◌≡◌, [], ◌∷◌, ◌++◌, true, false, true≢false, ◌&&◌, refl, sym, ap, ◌∙◌, subst, ◌≤◌, length, all-one, characters, is_empty, is_alphanumeric, Entities, IsTable, has_read_key, SearchHasRead, HasNone, IsOver, key_bytes, in_name, last_of, is_letter_or_digit, NextIs}
 use Rattle.std.proofs.Math.Bool.{and-false}
 use Rattle.charref.proofs.Extending.{key_bytes-more, held_longer, best_before, settled_before, best_after, settled_after, letter_of, nothing_read, something_read, count_read}
 use Rattle.charref.proofs.Indexing.{is_within}
@@ -9,7 +9,7 @@ use Rattle.charref.proofs.walking.after_name.Goals.{else-in_value-via-then-in_va
 
 pub returns-then-ch-eq35-clause-next : goal.returns-then-ch-eq35-clause-next
 returns-then-ch-eq35-clause-next c = λ text p read run is.
-    subst (λ xs. NextIs c.args.table.now c.args.in_value (xs ++ p ∷ []) (Goes NumberSign)) (sym (nothing_read text (sym read.depth ∙ c.if-search-eq1.true))) (one_number_sign c.args.table.now c.args.in_value p (is ∙ c.if-ch-eq35.true))
+    subst (λ xs. NextIs c.args.table.now c.args.in_value (xs ++ p ∷ []) (Goes (Sign Decimal))) (sym (nothing_read text (sym read.depth ∙ c.if-search-eq1.true))) (one_number_sign c.args.table.now c.args.in_value p (is ∙ c.if-ch-eq35.true))
 
 pub returns-then-not-is_alphanumeric-clause-next : goal.returns-then-not-is_alphanumeric-clause-next
 returns-then-not-is_alphanumeric-clause-next c = λ text p read run is after.

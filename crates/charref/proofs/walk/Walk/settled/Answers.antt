@@ -1,13 +1,13 @@
 use Rattle.charref.proofs.Names.{◌≡◌, [], ◌∷◌, true, true≢false, sym, ◌∙◌, subst, slice_get_within, is_alphanumeric, SearchHasRead, IsTable, IsSortedTable, Settles}
-use Rattle.charref.proofs.AtOnce.{letter_of_ascii, no_first}
+use Rattle.charref.proofs.AtOnce.{no_first}
 use Rattle.charref.proofs.walk.Walk.settled.Goals as goal
 
-pub returns-then-is_ascii_alphanumeric : goal.returns-then-is_ascii_alphanumeric
-returns-then-is_ascii_alphanumeric c =
+pub returns-then-is_alphanumeric : goal.returns-then-is_alphanumeric
+returns-then-is_alphanumeric c =
     let table = c.args.table.now in
     let search = c.in-Some-after_first.search in
     let byte = c.in-Some.first.now in
-    let letter : is_alphanumeric byte ≡ true = letter_of_ascii byte (sym c.is_ascii_alphanumeric.ensures.value ∙ c.if-is_ascii_alphanumeric.true) in
+    let letter : is_alphanumeric byte ≡ true = sym c.is_alphanumeric.ensures ∙ c.if-is_alphanumeric.true in
     let read : SearchHasRead search c.table.inside.flat (38 ∷ byte ∷ []) = subst (λ ch. SearchHasRead search c.table.inside.flat (38 ∷ ch ∷ [])) c.from.ensures c.in-Some-after_first.ensures.read in
     let it : Settles table c.args.bytes.now 1 c.unknown.result = subst (Settles table c.args.bytes.now 1) (sym c.unknown.ensures)
     (no_first table c.args.bytes.now byte search (subst IsSortedTable c.table.view_is c.table.invariant.0.sorted) c.in-Some.ensures.value letter (subst (λ t. SearchHasRead search t (38 ∷ byte ∷ [])) c.table.view_is read) (c.is_over.ensures.0 c.if-is_over.true)) in

@@ -1,5 +1,5 @@
-use Rattle.charref.proofs.Names.{[], ◌∷◌, ◌++◌, Name, NumberSign, HexadecimalSign, Number, NextIs}
-use Rattle.charref.proofs.Taking.{held_name, held_sign, held_x, own, by_own}
+use Rattle.charref.proofs.Names.{[], ◌∷◌, ◌++◌, Name, Sign, Number, NextIs}
+use Rattle.charref.proofs.Taking.{held_name, held_sign, own, by_own}
 use Rattle.charref.proofs.walk.Walk.step.Goals as goal
 
 pub returns-in-Name-clause-next : goal.returns-in-Name-clause-next
@@ -7,13 +7,10 @@ returns-in-Name-clause-next c = λ table in_value text p taken is.
     let parts = held_name c.args.self.now.table.now c.args.self.now.in_value c.in-Name.search text (own c.args.self.now table in_value text (Name c.in-Name.search) taken c.in-Name.is) in
     by_own c.args.self.now table in_value text taken (λ t b. NextIs t b (text ++ p ∷ []) c.after_name.result) (c.after_name.ensures.next text p parts.0 parts.1 is)
 
-pub returns-in-NumberSign-clause-next : goal.returns-in-NumberSign-clause-next
-returns-in-NumberSign-clause-next c = λ table in_value text p taken is.
-    c.after_sign.ensures.next table in_value text p (held_sign c.args.self.now.table.now c.args.self.now.in_value text (own c.args.self.now table in_value text NumberSign taken c.in-NumberSign.is)) is
-
-pub returns-in-HexadecimalSign-clause-next : goal.returns-in-HexadecimalSign-clause-next
-returns-in-HexadecimalSign-clause-next c = λ table in_value text p taken is.
-    c.after_x.ensures.next table in_value text p (held_x c.args.self.now.table.now c.args.self.now.in_value text (own c.args.self.now table in_value text HexadecimalSign taken c.in-HexadecimalSign.is)) is
+pub returns-in-Sign-clause-next : goal.returns-in-Sign-clause-next
+returns-in-Sign-clause-next c = λ table in_value text p taken is.
+    let held = own c.args.self.now table in_value text (Sign c.in-Sign.base) taken c.in-Sign.is in
+    c.after_sign.ensures.next table in_value text p (held_sign c.args.self.now.table.now c.args.self.now.in_value c.in-Sign.base text held) is
 
 pub returns-in-Number-clause-next : goal.returns-in-Number-clause-next
 returns-in-Number-clause-next c = λ table in_value text p taken is.
