@@ -1,6 +1,0 @@
-use Rattle.std.proofs.Common.{rules}
-use Rattle.hmodes.proofs.Flowing.{ends-as}
-use Rattle.hmodes.proofs.tree_construction.TreeConstruction.end_body.Goals as goal
-
-pub returns : goal.returns
-returns c = search (rules, ends-as)
