@@ -1,6 +1,6 @@
 -- What the calls of a tree have to show: what its fields say of its value, and what they say after an edit.
 use Rattle.hnodes.proofs.Names.{◌≡◌, ℕ, zero, suc, true, ltb, cond, is_none, ◌++◌, ◌<◌, ◌≤◌, List, [], ◌∷◌, Option, Some, None, length, refl, sym, ◌∙◌, ap, subst, arith, Forest, What, document, tree, none, roots, change_what, Nodes, AreNodes, Row, Look, Loose, RowsStandIn, standing, loose, is_loose, parent_in, previous_in, next_in, with_what, at_row, look_in, row_of, content_is, get_or, set, eqb, option_map, nodes_in, inside_nodes, AreKept, AreTree, Holds, IsAmong, IsGrown, IsKept, IsTree, Node, NodeData, Store, Inside, option_and_then, times, Spot, spot_of, parent_of, row_at, first_in, last_in, false, IsSome, All, IsOutside, graft_last, graft_before, detached, hooked, contents_of, IsSeenAs, IsWithin, ◌≢◌, eq-eqb, ne_eqb, lt-leb, join, tree_at, make, IsPlace, Place, LastIn, Before, row_alone, inr, HoldsAt}
-use Rattle.std.specs.Prelude.{Result, Ok, Err, OnOk, OnErr}
+use Rattle.std.specs.Prelude.{Result, Ok, Err}
 use Rattle.std.proofs.lemmas.List.{length-set}
 use Rattle.hnodes.proofs.Stored.{grown-holds}
 use Rattle.hnodes.proofs.Rows.{kept-at, kept-grown, kept-set, look_in-at, look_in-grown, look_in-set, row_seen, as_many}
@@ -147,12 +147,6 @@ module _ (t : Inside) (v : Nodes ℕ) (s : Store) (n j : ℕ) (x : Node) (c : No
 
   pub unwritten : Holds s c (content_is t.store x.content) → Left t s new v.trees
   unwritten h = subst (Left t s new) (what-id n v.trees) (written (λ w. w) refl h)
-
-  -- a call that writes, or shows nothing where it fails
-  pub tried : {A E : Type 0} (g : What ℕ → What ℕ) (r : Result A E) → g document ≡ document → OnOk r (Holds s c (g (content_is t.store x.content))) → OnErr r (Holds s c (content_is t.store x.content))
-      → AreTree s new t.limit × OnOk r (nodes_in s new t.limit ≡ record v { trees = change_what n g v.trees }) × OnErr r (nodes_in s new t.limit ≡ v)
-  tried g (Ok a) stays ok err = let l = written g stays ok in (edited o l, edited_view o l, tt)
-  tried g (Err e) stays ok err = let l = unwritten err in (edited o l, tt, edited_view o l)
 
 -- What a node that is read says of its place.
 

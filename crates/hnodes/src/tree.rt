@@ -4,10 +4,10 @@ ghost use Rattle.std.specs.Prelude.{◌≡◌, ◌<◌, ◌≤◌, ◌↔◌, �
 ghost use Rattle.std.specs.Prelude.{length, ltb, nat_eq, true, if◌then◌else◌};
 ghost use Rattle.std.specs.Option.{option_map};
 ghost use Rattle.std.specs.Str.{chars};
-ghost use Rattle.hnodes.specs.Vocabulary.{add_attribute, add_char, add_chars, add_missing, change_what, graft, graft_before, graft_last, make, move_all};
+ghost use Rattle.hnodes.specs.Vocabulary.{add_attribute, add_char, add_chars, add_missing, graft, graft_before, graft_last, make, move_all};
 ghost use Rattle.hnodes.specs.Vocabulary.{attribute_of, comment, content_is, doctype, doctype_of, doctype_texts, document, element, first_child_of, given_is};
 ghost use Rattle.hnodes.specs.Vocabulary.{node_kind, last_child_of, node_name, next_of, none, own_text as own_text_of, parent_of, place_node};
-ghost use Rattle.hnodes.specs.Vocabulary.{previous_of, text, text_before, text_of_node, tree, what_of, with_text, AreNodes, HasNode, IsKept, IsOutside, IsPlace, Makes};
+ghost use Rattle.hnodes.specs.Vocabulary.{previous_of, text, text_before, text_of_node, tree, what_of, AreNodes, HasNode, IsKept, IsOutside, IsPlace, Makes};
 ghost use Rattle.hnodes.specs.Vocabulary.{Memory, Place, TooManyNodes};
 
 use crate::links::{detach, hook};
@@ -301,26 +301,17 @@ impl Tree {
         // A copy for the first of two calls.
         let here = place;
         match self.text_before(here) {
-            Some(before) => Ok(self.join(before, text)?),
+            Some(before) => {
+                let content = &mut self.nodes[before.number as usize].content;
+                add_text(content, text, &mut self.store)?;
+                Ok(())
+            }
             None => {
                 let node = self.make(Given::Text(text), at)?;
                 self.insert(node, place);
                 Ok(())
             }
         }
-    }
-
-    /// Adds a text at the end of a text.
-    fn join(&mut self, node: NodeId, text: &str) -> Result<(), AllocError>
-        requires { node < self.old.made }
-        ensures ok { OnOk result (self.new ≡ record self.old { trees = change_what node (with_text text.now) self.old.trees }) }
-        ensures err { OnErr result (self.new ≡ self.old) }
-    {
-        add_text(
-            &mut self.nodes[node.number as usize].content,
-            text,
-            &mut self.store,
-        )
     }
 
     /// The text right before a place.
