@@ -312,6 +312,10 @@ module _ (last : List ℕ) (links : List Link) (x : Link) (g i next v : ℕ) (la
 up-set : (s : ℕ → Bool) (xs : List ℕ) (i n : ℕ) → last_up s (set xs i n) i ≡ last_up s xs i
 up-set s xs i n = up-alike s xs (set xs i n) i (λ j h. ap s (let ne : j ≢ i = omega arith in get_or-set_other xs i j n 0 ne))
 
+-- where there is a link, each number has a group in the table
+pub group-within : (last : List ℕ) (links : List Link) (i n : ℕ) → IsIndexed last links → i < length links → group_of n (length last) < length last
+group-within last links i n c within = let some : 0 < length links = omega arith in group-less n (length last) (c.wide some)
+
 -- a number that is to be taken out
 pub record Out (last : List ℕ) (links : List Link) (i next : ℕ) : Type 0 where
   pub indexed : IsIndexed last links
@@ -331,11 +335,6 @@ module _ (last : List ℕ) (links : List Link) (i next : ℕ) (o : Out last link
       let g : ℕ = group_of (nth links i).number (length last) in
       let in_it : group_of (get_or (numbers_of links) i 0) (length last) ≡ g = ap (λ n. group_of n (length last)) (number-at links i) in
       differ-set (length last) g i next (numbers_of links) none out-within-numbers (λ h ne. sym (not-in (length last) g h (get_or (numbers_of links) i 0) ne in_it)) out-is-next
-
-  pub out-group : group_of (nth links i).number (length last) < length last
-  out-group =
-      let some : 0 < length links = omega (arith, o.within) in
-      group-less _ (length last) (o.indexed.wide some)
 
   out-kept : (nth links i).before ≡ last_up (in_group_of (length last) (nth links i).number) (numbers_of links) i
   out-kept = sym (before-at links i) ∙ o.indexed.to.kept i out-within-numbers o.some ∙ ap (λ n. last_up (in_group_of (length last) n) (numbers_of links) i) (number-at links i)
@@ -373,11 +372,6 @@ module _ (last : List ℕ) (links : List Link) (i : ℕ) (x : Link) (o : In last
   in-differ =
       differ-set (length last) (group_of x.number (length last)) i x.hint (numbers_of links) x.number in-within-numbers
       (λ h ne. not-in (length last) (group_of x.number (length last)) h x.number ne refl ∙ sym (ap (λ n. is_in_group (length last) h n) o.free)) o.fits.next
-
-  pub in-group-less : group_of x.number (length last) < length last
-  in-group-less =
-      let some : 0 < length links = omega (arith, o.within) in
-      group-less _ (length last) (o.indexed.wide some)
 
   in-kept : x.before ≡ last_up (in_group_of (length last) x.number) (numbers_of links) i
   in-kept =

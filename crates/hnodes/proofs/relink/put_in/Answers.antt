@@ -1,5 +1,5 @@
 use Rattle.hnodes.proofs.IndexNames.{◌+◌, length, sym, ◌∙◌, add-one, numbers_of, arith, length-set, map-set, link_number, group_of, ap, cond, eqb, set}
-use Rattle.hnodes.proofs.Relinked.{rewritten, set-known, In, in-differ, in-group-less, in-here, in-within, in-keeps}
+use Rattle.hnodes.proofs.Relinked.{rewritten, set-known, In, group-within, in-differ, in-here, in-within, in-keeps}
 use Rattle.hnodes.proofs.relink.put_in.Goals as goal
 
 pub hint_at-requires : goal.hint_at-requires
@@ -16,7 +16,7 @@ returns-clause-are_indexed c =
       indexed =
           rewritten c.args.last.now c.args.links.now c.args.link (group_of c.args.link.number (length c.args.last.now)) c.args.index c.args.link.hint (c.args.index + 1) c.keep.new.last c.keep.new.links c.hint_at.new.links (record {
             differ = in-differ c.args.last.now c.args.links.now c.args.index c.args.link o;
-            group = in-group-less c.args.last.now c.args.links.now c.args.index c.args.link o;
+            group = group-within c.args.last.now c.args.links.now c.args.index c.args.link.number c.requires.are_indexed.indexed c.requires.within;
             numbers2 = c.keep.ensures.numbers;
             table2 = c.keep.ensures.table ∙ ap (λ g. cond (eqb c.args.link.hint 0) (set c.args.last.now g (c.args.index + 1)) c.args.last.now) c.group_of-group.ensures.group;
             befores2 = c.keep.ensures.befores;

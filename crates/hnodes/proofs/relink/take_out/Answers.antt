@@ -1,5 +1,5 @@
 use Rattle.hnodes.proofs.IndexNames.{◌≡◌, ℕ, List, length, set, refl, sym, ◌∙◌, subst, arith, length-set, map-set, none, link_number, numbers_of, FitsAt, Link, group_of, ap, cond, eqb}
-use Rattle.hnodes.proofs.Relinked.{nth, rewritten, number-at, is-some, set-known, Out, out-differ, out-group, out-before, out-within, out-fit}
+use Rattle.hnodes.proofs.Relinked.{nth, rewritten, number-at, is-some, set-known, Out, group-within, out-differ, out-before, out-within, out-fit}
 use Rattle.hnodes.proofs.relink.take_out.Goals as goal
 
 -- a link once its number is taken out
@@ -20,7 +20,7 @@ returns-clause-are_indexed c =
           rewritten c.args.last.now c.args.links.now (gone (nth c.args.links.now c.args.index)) (group_of old.number (length c.args.last.now)) c.args.index c.above-hint.result old.before c.keep.new.last c.keep.new.links
           c.hint_at.new.links (record {
             differ = out-differ c.args.last.now c.args.links.now c.args.index c.above-hint.result o;
-            group = out-group c.args.last.now c.args.links.now c.args.index c.above-hint.result o;
+            group = group-within c.args.last.now c.args.links.now c.args.index old.number c.requires.are_indexed.indexed c.requires.within;
             numbers2 = c.keep.ensures.numbers;
             table2 = c.keep.ensures.table ∙ ap (λ g. cond (eqb c.above-hint.result 0) (set c.args.last.now g old.before) c.args.last.now) c.group_of-group.ensures.group;
             befores2 = c.keep.ensures.befores;
