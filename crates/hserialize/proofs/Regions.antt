@@ -1,12 +1,12 @@
 -- A list is content of what it is in exactly if each of its regions is, and no form is in a form.
-use Rattle.hserialize.proofs.Names.{◌≡◌, ℕ, ◌<◌, Bool, true, false, not, cond, List, Some, None, refl, sym, ◌∙◌, ap, arith, option_and_then, ◌&&◌, ◌||◌, Option, Texts, AreNames, text_of, tag_of, tag_named, Tag, AreCounted, What, element, Forest, none, tree, children_of, mapped, mapped_what, name_in, row, takes_role, Inside, are_plain_attributes, in_context, in_context_of, inside_node, is_form_element, is_nested, is_plain_node, inserts_marker, are_region_content, begins_region, in_region, without_form, is_phrasing, tag_at, tag_or_other, texts_at_top, top_content, visits, Content, Visit, option_map, are_content, are_content_if, begins_with_line_feed, drops_line_feed, is_plain, form_after, have_plain_regions, makes_form, Whole}
+use Rattle.hserialize.proofs.Names.{◌≡◌, ℕ, ◌<◌, Bool, true, false, not, cond, List, Some, None, refl, sym, ◌∙◌, and_parts, ap, arith, option_and_then, ◌&&◌, ◌||◌, Option, Texts, AreNames, text_of, tag_of, tag_named, Tag, AreCounted, What, element, Forest, none, tree, children_of, mapped, mapped_what, name_in, row, takes_role, Inside, are_plain_attributes, in_context, in_context_of, inside_node, is_form_element, is_nested, is_plain_node, inserts_marker, are_region_content, begins_region, in_region, without_form, is_phrasing, tag_at, tag_or_other, texts_at_top, top_content, visits, Content, Visit, option_map, are_content, are_content_if, begins_with_line_feed, drops_line_feed, is_plain, form_after, have_plain_regions, makes_form, Whole}
 use Rattle.hserialize.proofs.KnownNames.{tags-agree}
-use Rattle.hserialize.proofs.Runs.{run, walked, run-visits}
+use Rattle.hserialize.proofs.Runs.{walked}
 use Rattle.hserialize.proofs.Seen.{Seen, seen}
 use Rattle.names.specs.declared.tag.Tag.TheVariants as tag
 use Rattle.hserialize.specs.declared.content.Content.TheVariants as content
 use Rattle.hserialize.proofs.Entering.{enters_region}
-use Rattle.hserialize.proofs.Walks.{is_left, tells, entering, leaving, lost, Finds}
+use Rattle.hserialize.proofs.Walks.{entering, leaving, Finds, finds-all, node-finds}
 
 -- BY REGIONS
 
@@ -91,6 +91,9 @@ by_regions i (tree n w kids rest) =
 step : (x m r : Bool) (o : Option Bool) → cond x None (cond (m && not r) None o) ≡ cond (not x && cond m r true) o None
 step x m r o = grind (arith)
 
+regrouped : (a b c d : Bool) → ((a && b) && c && d) ≡ (a && b && c && d)
+regrouped a b c d = grind (arith)
+
 back_again : (x v : Bool) → not (x && v) ≡ true → ((x || v) && not v) ≡ x
 back_again x v h = grind (arith)
 
@@ -101,9 +104,6 @@ module _ (spelling : ℕ → List ℕ) (tags : (id : ℕ) → tag_of id ≡ tag_
 
   abbrev leaves : ℕ → Option Bool → Option Bool
   leaves = leaving (form_after spelling f)
-
-  gone : (g : Forest ℕ) → walked enters leaves Whole g None ≡ None
-  gone = lost (form_after spelling f) Whole
 
   abbrev region : Forest ℕ → Bool
   region kids = are_region_content (in_region content.Flow) (mapped spelling kids)
@@ -119,11 +119,19 @@ module _ (spelling : ℕ → List ℕ) (tags : (id : ℕ) → tag_of id ≡ tag_
   finds : (made root p : ℕ) (g : Forest ℕ) → Seen made f root p g → (u : Bool) → walked enters leaves Whole g (Some u) ≡ cond (have_plain_regions u (mapped spelling g)) (Some u) None
   finds made root p none s u = refl
   finds made root p (tree b w kids rest) s u =
-      ap (λ o. walked enters leaves Whole rest (leaves b (walked enters leaves Whole kids o))) first
-      ∙ go (not (u && makes_form (mapped_what spelling w))) (cond (begins_region (mapped_what spelling w)) (region kids) true) (back_again u (makes_form (mapped_what spelling w))) (finds made root b kids s.1) (finds made root p rest s.2 u)
+      node-finds (form_after spelling f) Whole false b kids rest u within (apart && regions) (have_plain_regions within (mapped spelling kids)) (have_plain_regions u (mapped spelling rest)) first
+      (λ _ _. finds made root b kids s.1 within)
+      (λ all. ap (λ v. Some (within && not v)) forms ∙ ap (λ v. Some v) (back_again u (makes_form (mapped_what spelling w)) (and_parts _ _ all).0)) (finds made root p rest s.2 u)
+      ∙ ap (λ v. cond v (Some u) None) (regrouped apart regions (have_plain_regions within (mapped spelling kids)) (have_plain_regions u (mapped spelling rest)))
     where
       within : Bool
       within = u || makes_form (mapped_what spelling w)
+
+      apart : Bool
+      apart = not (u && makes_form (mapped_what spelling w))
+
+      regions : Bool
+      regions = cond (begins_region (mapped_what spelling w)) (region kids) true
 
       named : tag_at b f ≡ tag_or_other (name_in w)
       named = ap (λ o. tag_or_other (option_and_then name_in o)) s.0.what
@@ -131,24 +139,10 @@ module _ (spelling : ℕ → List ℕ) (tags : (id : ℕ) → tag_of id ≡ tag_
       forms : is_form_element (tag_at b f) ≡ makes_form (mapped_what spelling w)
       forms = ap is_form_element named ∙ formed_as w
 
-      first : enters b (Some u) ≡ cond (not (u && makes_form (mapped_what spelling w)) && cond (begins_region (mapped_what spelling w)) (region kids) true) (Some within) None
+      first : enters b (Some u) ≡ cond (apart && regions) (Some within) None
       first =
           (λ k. cond (u && forms k) None (cond ((ap inserts_marker named ∙ marked_as w) k && not (region (s.0.kids_are k))) None (Some (u || forms k))))
           ∙ step (u && makes_form (mapped_what spelling w)) (begins_region (mapped_what spelling w)) (region kids) (Some within)
-
-      after : (k r : Bool) → (within && not (makes_form (mapped_what spelling w))) ≡ u → walked enters leaves Whole rest (Some u) ≡ cond r (Some u) None
-          → walked enters leaves Whole rest (leaves b (cond k (Some within) None)) ≡ cond (k && r) (Some u) None
-      after true r back law = ap (λ v. walked enters leaves Whole rest (Some (within && not v))) forms ∙ ap (λ v. walked enters leaves Whole rest (Some v)) back ∙ law
-      after false r back law = gone rest
-
-      go : (x y : Bool) → (x ≡ true → (within && not (makes_form (mapped_what spelling w))) ≡ u) → ((v : Bool) → walked enters leaves Whole kids (Some v) ≡ cond (have_plain_regions v (mapped spelling kids)) (Some v) None)
-          → walked enters leaves Whole rest (Some u) ≡ cond (have_plain_regions u (mapped spelling rest)) (Some u) None
-          → walked enters leaves Whole rest (leaves b (walked enters leaves Whole kids (cond (x && y) (Some within) None)))
-          ≡ cond (x && y && have_plain_regions within (mapped spelling kids) && have_plain_regions u (mapped spelling rest)) (Some u) None
-      go false y back inner law = ap (λ o. walked enters leaves Whole rest (leaves b o)) (gone kids) ∙ gone rest
-      go true false back inner law = ap (λ o. walked enters leaves Whole rest (leaves b o)) (gone kids) ∙ gone rest
-      go true true back inner law =
-          ap (λ o. walked enters leaves Whole rest (leaves b o)) (inner within) ∙ after (have_plain_regions within (mapped spelling kids)) (have_plain_regions u (mapped spelling rest)) (back refl) law
 
 -- where a list is at the top
 top_is : (c : Content) (form : Bool) → in_context_of c form ≡ option_map (λ own. record { content = own; texts = texts_at_top own; in_a = false; in_button = false; in_form = form }) (top_content c)
@@ -183,16 +177,11 @@ pub begun : (names : Texts) (made : ℕ) (f : Forest ℕ) (root : ℕ) (top : Co
     → in_context_of (row t).1 (is_form_element t) ≡ in_context context → Some top ≡ top_content (row t).1 → true ≡ are_region_content (in_region top) (mapped (text_of names) (children_of root f)) → in_form ≡ is_form_element t
     → left ≡ items → items ≡ visits Whole (children_of root f) → IsFinding names f root context in_form left
 begun names made f root top context t in_form left items table counted h named topmost region begins same visited =
-    let step = form_after (text_of names) f in
-    record {
-      same =
-          (λ i. is_left (run (entering step) (leaving step) ((same ∙ visited) i) (Some (begins i))))
-          ∙ ap is_left (run-visits (entering step) (leaving step) Whole (children_of root f) (Some (is_form_element t)))
-          ∙ ap is_left (finds (text_of names) (tags-agree names table) f made root root (children_of root f) (seen made f counted root h) (is_form_element t))
-          ∙ tells (have_plain_regions (is_form_element t) (mapped (text_of names) (children_of root f))) (is_form_element t)
-          ∙ ap (λ u. u && have_plain_regions (is_form_element t) (mapped (text_of names) (children_of root f))) region
-          ∙ plain_is context t top (mapped (text_of names) (children_of root f)) named topmost;
-    }
+    let g = mapped (text_of names) (children_of root f) in
+    let all : have_plain_regions in_form g ≡ is_plain context g = ap (λ u. have_plain_regions u g) begins
+    ∙ ap (λ u. u && have_plain_regions (is_form_element t) g) region ∙ plain_is context t top g named topmost in
+    finds-all (form_after (text_of names) f) Whole (children_of root f) _ in_form left items same visited
+    (finds (text_of names) (tags-agree names table) f made root root (children_of root f) (seen made f counted root h) in_form ∙ ap (λ u. cond u (Some in_form) None) all)
 
 -- no list is plain where none is at the top
 pub none_plain : (context : List ℕ) (t : Tag) (f : Forest (List ℕ)) → in_context_of (row t).1 (is_form_element t) ≡ in_context context → top_content (row t).1 ≡ None → false ≡ is_plain context f

@@ -2,7 +2,7 @@
 use Rattle.hserialize.proofs.Names.{◌≡◌, ℕ, ◌<◌, Bool, true, false, not, cond, List, Some, None, refl, ◌∙◌, ap, option_and_then, and_parts, not-true, ◌&&◌, Option, Texts, AreNames, text_of, tag_of, tag_named, Tag, AreCounted, What, element, Forest, none, tree, children_of, mapped, mapped_what, name_in, row, takes_role, texts_in, Inside, inside_node, inside_element, is_nested, is_plain_node, inserts_marker, are_region_content, begins_region, in_region, without_form, is_phrasing, content_among, texts_at_top, tag_or_other, tag_at, marked, visits, Around, Content, Visit, eqb, eq-eqb, text, first_or, what_of, begins_with_text, alone, standing_at_top, standing_in, standing_of, inside_is, is_text_node, node_begins_with_line_feed, is_text_at, begins_at, is_plain_element, is_plain_what, is_plain_at, after_visit, goes_in, Region, parent_of, Enter}
 use Rattle.hserialize.specs.declared.around.Standing.{Standing}
 use Rattle.hserialize.proofs.KnownNames.{tags-agree}
-use Rattle.hserialize.proofs.Runs.{run, walked, run-visits}
+use Rattle.hserialize.proofs.Runs.{walked}
 use Rattle.hserialize.proofs.Seen.{Seen, seen}
 use Rattle.names.specs.declared.tag.Tag.TheVariants as tag
 use Rattle.hserialize.specs.Plain.{begins_with_line_feed as begins_line}
@@ -11,7 +11,7 @@ use Rattle.hserialize.specs.declared.content.Texts.{Texts as Allowed}
 use Rattle.hserialize.specs.declared.content.Texts.TheVariants as texts
 use Rattle.hserialize.proofs.Entering.{fits, place_in, IsEntered, enter_element, enter_other, left_again}
 use Rattle.hserialize.proofs.Seen.{IsSeen}
-use Rattle.hserialize.proofs.Walks.{is_left, tells, entering, leaving, lost, Finds}
+use Rattle.hserialize.proofs.Walks.{entering, leaving, Finds, finds-all, node-finds}
 
 module _ (spelling : ℕ → List ℕ) (tags : (id : ℕ) → tag_of id ≡ tag_named (spelling id)) (f : Forest ℕ) (root : ℕ) (top : Content) where
   -- what is around, as long as all is plain
@@ -20,9 +20,6 @@ module _ (spelling : ℕ → List ℕ) (tags : (id : ℕ) → tag_of id ≡ tag_
 
   abbrev leaves : ℕ → Option Around → Option Around
   leaves = leaving (after_visit spelling f root top)
-
-  gone : (g : Forest ℕ) → walked enters leaves Region g None ≡ None
-  gone = lost (after_visit spelling f root top) Region
 
   -- where the children of a node are
   abbrev content_in : ℕ → Bool → Content
@@ -127,41 +124,22 @@ module _ (spelling : ℕ → List ℕ) (tags : (id : ℕ) → tag_of id ≡ tag_
   tests_trees made p none s a fit = refl
   tests_trees made p (tree b w kids rest) s a fit =
       ap (λ u. walked enters leaves Region rest (leaves b (cond u (walked enters leaves Region kids (enters b (Some a))) (enters b (Some a))))) (goes w)
-      ∙ ap (λ o. walked enters leaves Region rest (leaves b (cond (not (begins w)) (walked enters leaves Region kids o) o))) first
-      ∙ go (tests_trees made b kids s.1) (tests_trees made p rest s.2 a fit) (is_plain_node (place p a) (mapped_what spelling w) (mapped spelling kids) (mapped spelling rest)) refl (begins w) refl
+      ∙ node-finds (after_visit spelling f root top) Region (begins w) b kids rest a within (is_plain_node (place p a) (mapped_what spelling w) (mapped spelling kids) (mapped spelling rest))
+      (are_region_content (without_form (inside_node (mapped_what spelling w) (place p a))) (mapped spelling kids)) (are_region_content (place p a) (mapped spelling rest)) first
+      (λ bare plain. let at = (again plain).below bare in tests_trees made b kids s.1 within at.1 ∙ ap (λ i. cond (are_region_content i (mapped spelling kids)) (Some within) None) at.0)
+      (λ plain. ap (λ x. Some x) (again plain).back) (tests_trees made p rest s.2 a fit)
     where
       within : Around
       within = marked (tag_at b f) true a
+
+      again : is_plain_node (place p a) (mapped_what spelling w) (mapped spelling kids) (mapped spelling rest) ≡ true → IsAgain p b w a
+      again = entered made p b w kids rest a s.0 fit
 
       first : enters b (Some a) ≡ cond (is_plain_node (place p a) (mapped_what spelling w) (mapped spelling kids) (mapped spelling rest)) (Some within) None
       first =
           ap (λ o. cond (is_plain_at spelling (inside_is (standing_of root top a o f)) b f) (Some within) None) s.0.parent
           ∙ ap (λ i. cond (is_plain_at spelling i b f) (Some within) None) (placed p a)
           ∙ ap (λ u. cond u (Some within) None) (tested made p b w kids rest s.0 s.1 s.2 (place p a))
-
-      unread : (m : Bool) → cond (not m) (walked enters leaves Region kids None) None ≡ None
-      unread true = refl
-      unread false = gone kids
-
-      after : (u v : Bool) → marked (tag_at b f) false within ≡ a → walked enters leaves Region rest (Some a) ≡ cond v (Some a) None
-          → walked enters leaves Region rest (leaves b (cond u (Some within) None)) ≡ cond (u && v) (Some a) None
-      after true v back law = ap (λ x. walked enters leaves Region rest (Some x)) back ∙ law
-      after false v back law = gone rest
-
-      Inner : Type 0
-      Inner = (a' : Around) → fits (content_in b a'.in_phrasing) a'.in_phrasing ≡ true → walked enters leaves Region kids (Some a') ≡ cond (are_region_content (place b a') (mapped spelling kids)) (Some a') None
-
-      go : Inner → walked enters leaves Region rest (Some a) ≡ cond (are_region_content (place p a) (mapped spelling rest)) (Some a) None
-          → (u : Bool) → is_plain_node (place p a) (mapped_what spelling w) (mapped spelling kids) (mapped spelling rest) ≡ u → (m : Bool) → begins w ≡ m
-          → walked enters leaves Region rest (leaves b (cond (not m) (walked enters leaves Region kids (cond u (Some within) None)) (cond u (Some within) None)))
-          ≡ cond (u && (cond m true (are_region_content (without_form (inside_node (mapped_what spelling w) (place p a))) (mapped spelling kids))) && are_region_content (place p a) (mapped spelling rest)) (Some a) None
-      go inner law false e m e' = ap (λ o. walked enters leaves Region rest (leaves b o)) (unread m) ∙ gone rest
-      go inner law true e true e' = after true (are_region_content (place p a) (mapped spelling rest)) (entered made p b w kids rest a s.0 fit e).back law
-      go inner law true e false e' =
-          let d = entered made p b w kids rest a s.0 fit e in
-          let at : Stands p b a (without_form (inside_node (mapped_what spelling w) (place p a))) = d.below e' in
-          ap (λ o. walked enters leaves Region rest (leaves b o)) (inner within at.1 ∙ ap (λ i. cond (are_region_content i (mapped spelling kids)) (Some within) None) at.0)
-          ∙ after (are_region_content (without_form (inside_node (mapped_what spelling w) (place p a))) (mapped spelling kids)) (are_region_content (place p a) (mapped spelling rest)) d.back law
 
 -- what a visit makes of what is around, in other words
 pub entered-is : (spelling : ℕ → List ℕ) (f : Forest ℕ) (root : ℕ) (top : Content) (n : ℕ) (a within : Around) (t : Tag) (standing : Standing) (plain : Bool) → t ≡ tag_at n f → within ≡ marked t true a
@@ -177,18 +155,12 @@ not_phrasing _ h = refl
 abbrev pub IsTesting : (names : Texts) (f : Forest ℕ) (root : ℕ) (top : Content) → Around → List Visit → Type 0
 IsTesting names f root top = Finds (after_visit (text_of names) f root top) (are_region_content (in_region top) (mapped (text_of names) (children_of root f)))
 
-pub begun : (names : Texts) (made : ℕ) (f : Forest ℕ) (root : ℕ) (top : Content) (around : Around) (left items : List Visit) → AreNames names → AreCounted made f → root < made
-    → is_phrasing top ≡ false → around ≡ alone → left ≡ items → items ≡ visits Region (children_of root f) → IsTesting names f root top around left
-begun names made f root top around left items table counted h other begins same visited =
-    let step = after_visit (text_of names) f root top in
-    record {
-      same =
-          (λ i. is_left (run (entering step) (leaving step) ((same ∙ visited) i) (Some (begins i))))
-          ∙ ap is_left (run-visits (entering step) (leaving step) Region (children_of root f) (Some alone))
-          ∙ ap is_left (tests_trees (text_of names) (tags-agree names table) f root top made root (children_of root f) (seen made f counted root h) alone fit)
-          ∙ ap (λ u. is_left (cond (are_region_content (place_in (cond u top own) (cond u (texts_at_top top) (texts_in own)) alone) (mapped (text_of names) (children_of root f))) (Some alone) None)) self
-          ∙ tells (are_region_content (in_region top) (mapped (text_of names) (children_of root f))) alone;
-    }
+pub begun : (names : Texts) (made : ℕ) (f : Forest ℕ) (root : ℕ) (top : Content) (left items : List Visit) → AreNames names → AreCounted made f → root < made
+    → is_phrasing top ≡ false → left ≡ items → items ≡ visits Region (children_of root f) → IsTesting names f root top alone left
+begun names made f root top left items table counted h other same visited =
+    finds-all (after_visit (text_of names) f root top) Region (children_of root f) _ alone left items same visited
+    (tests_trees (text_of names) (tags-agree names table) f root top made root (children_of root f) (seen made f counted root h) alone fit
+    ∙ ap (λ u. cond (are_region_content (place_in (cond u top own) (cond u (texts_at_top top) (texts_in own)) alone) (mapped (text_of names) (children_of root f))) (Some alone) None) self)
   where
     self : eqb root root ≡ true
     self = eq-eqb root root refl

@@ -5,8 +5,8 @@ use Rattle.hserialize.proofs.plain.is_plain_region.Goals as goal
 
 pub loop-visit-init : goal.loop-visit-init
 loop-visit-init c =
-    begun c.args.names.now.table.now c.args.tree.now.made c.args.tree.now.trees c.args.root c.args.top _ _ _ c.are_names.ensures.names c.new-visit-items.ensures.nodes.counted c.requires.made
-    c.requires.not_phrasing refl c.into_iter-visit-iterator.ensures.into_iter_gives c.new-visit-items.ensures.visits
+    begun c.args.names.now.table.now c.args.tree.now.made c.args.tree.now.trees c.args.root c.args.top _ _ c.are_names.ensures.names c.new-visit-items.ensures.nodes.counted c.requires.made
+    c.requires.not_phrasing c.into_iter-visit-iterator.ensures.into_iter_gives c.new-visit-items.ensures.visits
 
 pub loop-visit-preserved-in-Enter : goal.loop-visit-preserved-in-Enter
 loop-visit-preserved-in-Enter c =
