@@ -1,10 +1,9 @@
 -- What stands whole in a run: a tag without attributes, or an attribute.
 use Rattle.htag.proofs.Vocabulary.{◌≡◌, ◌≤◌, ◌<◌, ℕ, zero, suc, ◌+◌, ◌-◌, Bool, true, false, not, ◌||◌, ◌&&◌, eqb, eqb_self, List, [], ◌∷◌, ◌++◌, length, take, drop, sym, refl, ap, ◌∙◌, subst, append_assoc, append-nil, arith, nat_tests, length-drop, length-take-le, take-append-drop, take_all, slice_index, list_all, prefix_len, ParseError, Placed, begins, characters, is_equals, is_greater, is_letter, is_quote, is_space, name_bytes, placed, is_plain_byte, all_weaker, all_placed, Entities, is_unquoted_byte, is_word_byte, ends_name, ends_unquoted, tag_errors}
-use Rattle.std.proofs.Common.{cond}
 use Rattle.std.proofs.Math.Seq.{drop-cons}
 use Rattle.std.proofs.lemmas.List.{length-append, take_at, nil_from_length}
 use Rattle.std.proofs.lemmas.List.Folds.{list_all-append}
-use Rattle.std.proofs.lemmas.List.Sums.{prefix_len_stops}
+use Rattle.std.proofs.lemmas.List.Sums.{prefix_len_is, prefix_len_passes, prefix_len_stops}
 use Rattle.std.specs.Char.{is_ascii, is_ascii_lowercase}
 use Rattle.htext.proofs.Runs.{placed-append}
 use Rattle.htext.specs.Run.{is_quoted_byte}
@@ -120,20 +119,9 @@ named_begins name is at =
 
 -- where the first of two marks is the second quote
 pub quote_first : (quote : ℕ) (run : List ℕ) → prefix_len (is_quoted_byte quote) run < length run → slice_index run (prefix_len (is_quoted_byte quote) run) ≡ quote → prefix_len (is_quoted_byte quote) run ≡ prefix_len (λ b. not (eqb b quote)) run
-quote_first quote [] l is = absurd (omega (arith, l))
-quote_first quote (x ∷ xs) l is = by (is_quoted_byte quote x) refl (quote_first quote xs) where
-  by : (b : Bool) → is_quoted_byte quote x ≡ b → (prefix_len (is_quoted_byte quote) xs < length xs → slice_index xs (prefix_len (is_quoted_byte quote) xs) ≡ quote → prefix_len (is_quoted_byte quote) xs ≡ prefix_len (λ b. not (eqb b quote)) xs)
-      → prefix_len (is_quoted_byte quote) (x ∷ xs) ≡ prefix_len (λ b. not (eqb b quote)) (x ∷ xs)
-  by true e more =
-      let other : not (eqb x quote) ≡ true = grind (arith, e, nat_tests) in
-      let n : ℕ = prefix_len (is_quoted_byte quote) xs in
-      let next : prefix_len (is_quoted_byte quote) (x ∷ xs) ≡ suc n = ap (λ (b : Bool). cond b (1 + n) 0) e ∙ omega arith in
-      next ∙ ap suc (more (omega (arith, l, next)) (sym (ap (slice_index (x ∷ xs)) next) ∙ is)) ∙ sym (ap (λ (b : Bool). cond b (1 + prefix_len (λ b. not (eqb b quote)) xs) 0) other ∙ omega arith)
-  by false e more =
-      let none : prefix_len (is_quoted_byte quote) (x ∷ xs) ≡ 0 = ap (λ (b : Bool). cond b (1 + prefix_len (is_quoted_byte quote) xs) 0) e in
-      let same : x ≡ quote = sym (ap (slice_index (x ∷ xs)) none) ∙ is in
-      let stops : not (eqb x quote) ≡ false = ap (λ (c : ℕ). not (eqb x c)) (sym same) ∙ ap not (eqb_self x) in
-      none ∙ sym (ap (λ (b : Bool). cond b (1 + prefix_len (λ b. not (eqb b quote)) xs) 0) stops)
+quote_first quote run l is =
+    sym (prefix_len_is (λ b. not (eqb b quote)) run (prefix_len (is_quoted_byte quote) run) 0 (omega (arith, l))
+    (λ k below. let passes = prefix_len_passes (is_quoted_byte quote) run k 0 below in grind (arith, passes, nat_tests)) (λ _. ap (λ (c : ℕ). not (eqb c quote)) is ∙ ap not (eqb_self quote)))
 
 not_mark : (c mark : ℕ) → not (eqb c mark) ≡ false → c ≡ mark
 not_mark c mark h = grind (arith, nat_tests)
@@ -183,40 +171,30 @@ unquoted_is (x ∷ others) rest n rest_is l equals is some within ends =
       written = IsWritten.unquoted refl (omega (arith, some, long)) (counted_all is_unquoted_byte rest n is) refl ends;
     }
 
-pub missing_is : (run : List ℕ) → (eqb (slice_index run 0) 47 || is_greater (slice_index run 0)) ≡ true → IsPlainValue run (record { before = 0; value = 0; after = 0; plain = true })
-missing_is [] ends = absurd cc
-missing_is (x ∷ rest) ends = record {
+none_is : (run after others : List ℕ) (next : ℕ) → run ≡ after ++ next ∷ others → IsWritten [] [] after next → IsPlainValue run (record { before = 0; value = 0; after = length after; plain = true })
+none_is run after others next is written = record {
   before = [];
   value = [];
-  after = [];
-  next = x;
-  others = rest;
-  run_is = refl;
+  after = after;
+  next = next;
+  others = others;
+  run_is = is;
   before_is = refl;
   value_is = refl;
   after_is = refl;
   plain = λ e. refl;
   bare = λ e. refl;
-  written = IsWritten.missing refl refl refl ends;
+  written = written;
 }
+
+pub missing_is : (run : List ℕ) → (eqb (slice_index run 0) 47 || is_greater (slice_index run 0)) ≡ true → IsPlainValue run (record { before = 0; value = 0; after = 0; plain = true })
+missing_is [] ends = absurd cc
+missing_is (x ∷ rest) ends = none_is (x ∷ rest) [] rest x refl (IsWritten.missing refl refl refl ends)
 
 pub apart_is : (run : List ℕ) → 1 < length run → is_space (slice_index run 0) ≡ true → is_ascii (slice_index run 1) ≡ true → not (is_space (slice_index run 1) || is_equals (slice_index run 1)) ≡ true → IsPlainValue run (record { before = 0; value = 0; after = 1; plain = true })
 apart_is [] l space small other = absurd (omega (arith, l))
 apart_is (x ∷ []) l space small other = absurd (omega (arith, l))
-apart_is (x ∷ y ∷ rest) l space small other = record {
-  before = [];
-  value = [];
-  after = x ∷ [];
-  next = y;
-  others = rest;
-  run_is = refl;
-  before_is = refl;
-  value_is = refl;
-  after_is = refl;
-  plain = λ e. refl;
-  bare = λ e. refl;
-  written = IsWritten.apart x refl refl refl space small other;
-}
+apart_is (x ∷ y ∷ rest) l space small other = none_is (x ∷ y ∷ rest) (x ∷ []) rest y refl (IsWritten.apart x refl refl refl space small other)
 
 pub attribute_is : (run : List ℕ) (n : ℕ) (value : PlainValue) → n ≡ prefix_len is_word_byte run → (n ≡ 0 → ⊥) → n ≤ length run → IsPlainValue (take (length run - n) (drop n run)) value → IsPlainAttribute run (record { name = n; value = value })
 attribute_is run n value is some few h = record {

@@ -1,10 +1,12 @@
 -- A tag that the input's end cuts off.
-use Rattle.htag.proofs.Vocabulary.{◌≡◌, ℕ, Bool, true, false, not, ◌||◌, eqb, List, [], ◌∷◌, ◌++◌, map, sym, refl, ap, ◌∙◌, subst, append-nil, append_assoc, None, string_bytes, ParseError, Placed, Texts, begins, stops, all, past, is_space, is_equals, is_quote, null_errors, and_parts, Entities, TagWalk, pieces_text, value_bytes, EndsValue, Part, IsPart, AreParts, parts_text, part_errors_after, tag_errors, ends_name, ends_attribute_name, ends_unquoted, attribute_name_errors, value_errors, unquoted_errors, attribute_part, repeated, KeepsTag, EndsAttribute, names_after, HasName, IsInTag}
+use Rattle.htag.proofs.Vocabulary.{◌≡◌, ℕ, Bool, true, false, not, ◌||◌, if◌then◌else◌, eqb, List, [], ◌∷◌, ◌++◌, map, sym, refl, ap, ◌∙◌, subst, append-nil, append_assoc, None, string_bytes, ParseError, Placed, Texts, begins, stops, all, past, is_space, is_equals, is_quote, null_errors, and_parts, Entities, TagWalk, pieces_text, value_bytes, EndsValue, Part, IsPart, AreParts, parts_text, part_errors_after, tag_errors, ends_name, ends_attribute_name, ends_unquoted, attribute_name_errors, value_errors, unquoted_errors, attribute_part, repeated, KeepsTag, EndsAttribute, names_after, HasName, IsInTag}
 use Rattle.htag.specs.declared.tag_state.TagState.TheVariants as phase
 use Rattle.htag.specs.TagWalk.{IsCutTag}
 use Rattle.htag.proofs.Going.{held_in, past_is, attribute_told}
 use Rattle.htag.proofs.Parts.{part_errors, parts_text-append, parts_text-snoc, AreParts-append, AreParts-snoc}
 use Rattle.htag.proofs.Phases.{space_part, keeps_self}
+use Rattle.htag.proofs.Ahead.{name_read}
+use Rattle.std.proofs.Math.Bool.{or-true}
 use Rattle.htag.proofs.Values.{sign_stops}
 
 -- white space at the end
@@ -100,13 +102,6 @@ module _ (table : Entities) (names : Texts) (walk : TagWalk) (body : List Placed
         (ap (λ (x : List ParseError). attribute_name_errors n.name ++ x) (sym v.errors_are) ∙ sym (append_assoc (attribute_name_errors n.name) n.raised e.more) ∙ ap (λ (x : List ParseError). x ++ e.more) (sym n.own_is)) e.later_is (past_is table names walk body [] errors h phase.AttributeValueUnquoted before)
 
   module _ (after : Texts) (new : TagWalk) (later : List ParseError) (ends : EndsAttribute names after walk errors new later) where
-    pub cut_in_attribute_name : walk.phase ≡ phase.AttributeName → IsCutTag table body later
-    cut_in_attribute_name before =
-        let n = held_in table names walk body [] errors h phase.AttributeName before in
-        cut_attribute walk (keeps_self walk) refl refl errors after new later ends h.held [] [] [] (append-nil h.held)
-        (λ end. IsPart.bare h.held (record { first = n.has_name.first; runs = record { passes_none = n.has_name.runs; stops_after = refl } }) refl refl)
-        n.has_name n.no_value.empty [] (append-nil (attribute_name_errors h.held) ∙ sym n.own_is ∙ sym (append-nil h.own)) (sym (append-nil errors)) (past_is table names walk body [] errors h phase.AttributeName before)
-
     pub cut_before_value : walk.phase ≡ phase.BeforeAttributeValue → IsCutTag table body later
     cut_before_value before =
         let n = held_in table names walk body [] errors h phase.BeforeAttributeValue before in
@@ -126,22 +121,22 @@ module _ (table : Entities) (names : Texts) (walk : TagWalk) (body : List Placed
         (ap (λ (x : List ParseError). attribute_name_errors s.name ++ x) (append-nil (value_errors v.pieces) ∙ sym v.errors_are) ∙ sym s.own_is ∙ sym (append-nil h.own)) (sym (append-nil errors)) (past_is table names walk body [] errors h phase.AfterAttributeValueQuoted before)
 
     -- an attribute's name, and white space after it
-    pub cut_after_attribute_name : walk.phase ≡ phase.AfterAttributeName → IsCutTag table body later
-    cut_after_attribute_name before =
-        let n = held_in table names walk body [] errors h phase.AfterAttributeName before in
+    pub cut_after_name : (spaced : Bool) → walk.phase ≡ (if spaced then phase.AfterAttributeName else phase.AttributeName) → IsCutTag table body later
+    cut_after_name spaced before =
+        let (n, gone) = name_read table names walk body [] errors h spaced before in
         let part : Part = attribute_part n.name [] [] [] in
-        let all_parts : List Part = (h.parts ++ part ∷ []) ++ spaces n.sign in
-        let text : part.text ++ n.sign ≡ h.held = ap (λ (x : List Placed). x ++ n.sign) (append-nil n.name) ∙ sym n.held_is in
+        let all_parts : List Part = (h.parts ++ part ∷ []) ++ spaces n.spaces in
+        let text : part.text ++ n.spaces ≡ h.held = ap (λ (x : List Placed). x ++ n.spaces) (append-nil n.name) ∙ sym n.held_is in
+        let stop : stops ends_attribute_name n.spaces ≡ true = (λ i. stops ends_attribute_name (sym (append-nil n.spaces) i)) ∙ n.stop_here [] (or-true spaced) in
         let reference_errors : later ≡ tag_errors h.name (h.parts ++ part ∷ []) =
         part_errors h.name h.parts h.own errors h.errors_are part [] later (append-nil (attribute_name_errors n.name) ∙ sym n.own_is ∙ sym (append-nil h.own))
         ((attribute_told table names walk body [] errors h walk (keeps_self walk) refl refl n.name [] [] [] n.has_name n.no_value.empty errors after new later ends).1 ∙ ap (λ (x : List ParseError). x ++ repeated (names_after [] h.parts) part.attribute) (sym (append-nil errors))) in
         cut_with all_parts later
-        (ap (λ (x : List Placed). parts_text h.parts ++ x) (sym text) ∙ sym (append_assoc (parts_text h.parts) part.text n.sign) ∙ ap (λ (x : List Placed). x ++ n.sign) (sym (parts_text-snoc h.parts part))
-        ∙ ap (λ (x : List Placed). parts_text (h.parts ++ part ∷ []) ++ x) (sym (spaces_text n.sign)) ∙ sym (parts_text-append (h.parts ++ part ∷ []) (spaces n.sign)))
+        ((λ i. parts_text h.parts ++ sym text i) ∙ sym (append_assoc (parts_text h.parts) part.text n.spaces) ∙ (λ i. sym (parts_text-snoc h.parts part) i ++ sym (spaces_text n.spaces) i) ∙ sym (parts_text-append (h.parts ++ part ∷ []) (spaces n.spaces)))
         (λ end.
-        AreParts-append table end (h.parts ++ part ∷ []) (spaces n.sign) []
-        (subst (AreParts table end (h.parts ++ part ∷ [])) (sym (append-nil (parts_text (spaces n.sign)) ∙ spaces_text n.sign))
-        (AreParts-snoc table end h.parts part n.sign (subst (AreParts table end h.parts) (append-nil h.held ∙ sym text) (h.are_parts end []))
-        (IsPart.bare n.name (record { first = n.has_name.first; runs = record { passes_none = n.has_name.runs; stops_after = begins-stops ends_attribute_name n.sign n.begun } }) (only_spaces n.sign n.is_sign) refl)))
-        (are_spaces table end n.sign n.is_sign))
-        (reference_errors ∙ ap (λ (x : List ParseError). null_errors h.name ++ x) (sym (spaces_errors [] (h.parts ++ part ∷ []) n.sign))) (begins-stops ends_name (parts_text h.parts ++ (h.held ++ [])) (past_is table names walk body [] errors h phase.AfterAttributeName before))
+        AreParts-append table end (h.parts ++ part ∷ []) (spaces n.spaces) []
+        (subst (AreParts table end (h.parts ++ part ∷ [])) (sym (append-nil (parts_text (spaces n.spaces)) ∙ spaces_text n.spaces))
+        (AreParts-snoc table end h.parts part n.spaces (subst (AreParts table end h.parts) (append-nil h.held ∙ sym text) (h.are_parts end []))
+        (IsPart.bare n.name (record { first = n.has_name.first; runs = record { passes_none = n.has_name.runs; stops_after = stop } }) (only_spaces n.spaces n.are_spaces) refl)))
+        (are_spaces table end n.spaces n.are_spaces))
+        (reference_errors ∙ ap (λ (x : List ParseError). null_errors h.name ++ x) (sym (spaces_errors [] (h.parts ++ part ∷ []) n.spaces))) (begins-stops ends_name (parts_text h.parts ++ (h.held ++ [])) gone)

@@ -1,5 +1,5 @@
 -- The end of an attribute.
-use Rattle.htag.proofs.Vocabulary.{◌≡◌, ℕ, Bool, true, false, not, ◌||◌, List, [], ◌∷◌, ◌++◌, sym, ap, ◌∙◌, subst, append-nil, Option, Some, is_some, Vec, Global, slice_get, if◌then◌else◌, Attr, Texts, Grows, AreNames, error, TagWalk, AttrsMean, HasSeen, has_number, Attribute, Part, attributes_after, has_attribute, is_known, kept_attribute, repeated, named_by, names_after, NumbersMean, HasAttributes}
+use Rattle.htag.proofs.Vocabulary.{◌≡◌, ℕ, Bool, true, false, not, ◌||◌, List, [], ◌∷◌, ◌++◌, sym, ap, ◌∙◌, subst, transport, append-nil, Option, Some, is_some, slice_get, if◌then◌else◌, Attr, Texts, Grows, AreNames, error, TagWalk, AttrsMean, HasSeen, has_number, Attribute, Part, attributes_after, has_attribute, is_known, kept_attribute, repeated, named_by, names_after, NumbersMean, HasAttributes}
 use Rattle.std.proofs.Math.Bool.{or-true}
 use Rattle.names.specs.declared.error.ErrorCode.TheVariants.{DuplicateAttribute}
 use Rattle.htag.proofs.Naming.{numbers_kept, attrs_kept, attrs-snoc, known_number}
@@ -28,9 +28,8 @@ module _ (before after : Texts) (grows : Grows before after) (are : AreNames aft
       → HasAttributes after new (parts ++ part ∷ []) × (repeated (names_after [] parts) part.attribute ≡ [])
   first_ends value one name is_value attrs =
       let none : is_known (names_after [] parts) (a.name) ≡ false = known ∙ ap not one in (
-        holds (subst (AttrsMean after new.attrs.items) (ap (λ (x : List (List ℕ × List ℕ)). attributes_after [] parts ++ x) (sym (ap (kept_attribute (names_after [] parts)) is ∙ ap (λ (b : Bool). if b then [] else (a.name, a.value) ∷ []) none)))
-            (subst (λ (x : List Attr). AttrsMean after x (attributes_after [] parts ++ (a.name, a.value) ∷ [])) (sym attrs)
-            (attrs-snoc after old.attrs.items (attributes_after [] parts) value (a.name, a.value) (attrs_kept before after grows old.attrs.items (attributes_after [] parts) h.attributes) (ap (slice_get after) name ∙ number) is_value))),
+        holds (transport (λ t. AttrsMean after (sym attrs t) (attributes_after [] parts ++ sym (ap (kept_attribute (names_after [] parts)) is ∙ ap (λ (b : Bool). if b then [] else (a.name, a.value) ∷ []) none) t))
+            (attrs-snoc after old.attrs.items (attributes_after [] parts) value (a.name, a.value) (attrs_kept before after grows old.attrs.items (attributes_after [] parts) h.attributes) (ap (slice_get after) name ∙ number) is_value)),
         ap (repeated (names_after [] parts)) is ∙ ap (λ (b : Bool). if b then error DuplicateAttribute a.at ∷ [] else []) none,
       )
 
@@ -39,8 +38,6 @@ module _ (before after : Texts) (grows : Grows before after) (are : AreNames aft
   repeated_ends again attrs =
       let some : is_known (names_after [] parts) (a.name) ≡ true = known ∙ ap not again in
       let nothing : kept_attribute (names_after [] parts) part.attribute ≡ [] = ap (kept_attribute (names_after [] parts)) is ∙ ap (λ (b : Bool). if b then [] else (a.name, a.value) ∷ []) some in (
-        holds (subst (λ (x : Vec Attr Global). AttrsMean after x.items (attributes_after [] parts ++ kept_attribute (names_after [] parts) part.attribute)) (sym attrs)
-            (subst (AttrsMean after old.attrs.items) (sym (ap (λ (x : List (List ℕ × List ℕ)). attributes_after [] parts ++ x) nothing ∙ append-nil (attributes_after [] parts)))
-            (attrs_kept before after grows old.attrs.items (attributes_after [] parts) h.attributes))),
+        holds (transport (λ t. AttrsMean after (sym attrs t).items (sym ((λ i. attributes_after [] parts ++ nothing i) ∙ append-nil (attributes_after [] parts)) t)) (attrs_kept before after grows old.attrs.items (attributes_after [] parts) h.attributes)),
         ap (repeated (names_after [] parts)) is ∙ ap (λ (b : Bool). if b then error DuplicateAttribute a.at ∷ [] else []) some,
       )

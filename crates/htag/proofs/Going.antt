@@ -2,6 +2,7 @@
 use Rattle.htag.proofs.Vocabulary.{◌≡◌, ℕ, Bool, true, false, not, eqb, List, [], ◌∷◌, ◌++◌, drop, sym, refl, ap, ◌∙◌, subst, append_assoc, append-nil, flat_map, Some, string_bytes, flat_map-append, UnexpectedEqualsSignBeforeAttributeName, ParseError, Placed, Texts, begins, all, place, is_equals, error_if, name_bytes, name_bytes-append, Entities, all-append, TagState, TagWalk, IsInValue, Part, IsPart, AreParts, parts_text, tag_errors, ends_name, ends_attribute_name, ends_unquoted, attribute_name_errors, name_errors_here, attribute_part, repeated, names_after, NoValue, HasAttributes, HasName, HasPhase, IsPast, IsInTag, KeepsTag, EndsAttribute}
 use Rattle.htag.specs.declared.tag_state.TagState.TheVariants as phase
 use Rattle.htag.proofs.InValue.{looks_ahead}
+use Rattle.htag.proofs.Keeping.{holds_part}
 use Rattle.htag.proofs.Parts.{begins-more, holds_same, part_errors, parts_text-snoc, AreParts-snoc}
 
 -- the attribute's name stays
@@ -21,24 +22,14 @@ module _ (table : Entities) (names : Texts) (walk : TagWalk) (body fed : List Pl
   pub body_more : body ++ fed ≡ h.name ++ (parts_text h.parts ++ (h.held ++ fed))
   body_more = ap (λ (x : List Placed). x ++ fed) h.body_is ∙ append_assoc h.name (parts_text h.parts ++ h.held) fed ∙ ap (λ (x : List Placed). h.name ++ x) (append_assoc (parts_text h.parts) h.held fed)
 
-  -- what is held of a part goes on
-  pub goes_on : (new : TagWalk) (e later : List ParseError) → later ≡ errors ++ e → new.name ≡ walk.name → new.seen ≡ walk.seen → new.attrs ≡ walk.attrs → new.any ≡ walk.any → ((b : Bool) → b ≡ true → IsPast new.phase b) → Past ≡ true
-      → HasPhase new.phase table new h.parts (h.held ++ fed) (h.own ++ e) → IsInTag table names new (body ++ fed) [] later
-  goes_on new e later later_is named seen attrs any then gone has = record {
-    name = h.name;
-    parts = h.parts;
-    held = h.held ++ fed;
-    own = h.own ++ e;
-    body_is = body_more;
-    first = h.first;
-    passes = h.passes;
-    name_is = ap string_bytes named ∙ h.name_is;
-    are_parts = λ end more. subst (AreParts table end h.parts) (sym (append_assoc h.held fed more)) (h.are_parts end more);
-    errors_are = later_is ∙ ap (λ (x : List ParseError). x ++ e) h.errors_are ∙ append_assoc (tag_errors h.name h.parts) h.own e;
-    has_attributes = holds_same names walk new h.parts seen attrs any h.has_attributes;
-    past = then _ (ap (λ (x : List Placed). begins ends_name (parts_text h.parts ++ x)) (append-nil (h.held ++ fed)) ∙ gone);
-    has_phase = has;
-  }
+  -- what is held of a part goes on, in this phase
+  pub goes_on : (new : TagWalk) (ph : TagState) (e later : List ParseError) → KeepsTag walk new → new.phase ≡ ph → later ≡ errors ++ e → ((b : Bool) → b ≡ true → IsPast ph b) → Past ≡ true → HasPhase ph table new h.parts (h.held ++ fed) (h.own ++ e) → IsInTag table names new (body ++ fed) [] later
+  goes_on new ph e later keeps then later_is past_it gone has =
+      holds_part table names names walk new body fed errors h (body ++ fed) [] (h.held ++ fed) later (h.own ++ e) body_more
+      (later_is ∙ ap (λ (x : List ParseError). x ++ e) h.errors_are ∙ append_assoc (tag_errors h.name h.parts) h.own e) keeps.name_is
+      (λ end more. subst (AreParts table end h.parts) (sym (append_assoc h.held fed more)) (h.are_parts end more)) (holds_same names walk new h.parts keeps.seen_is keeps.attrs_are keeps.any_is h.has_attributes)
+      (subst (λ (x : TagState). IsPast x (begins ends_name (parts_text h.parts ++ ((h.held ++ fed) ++ [])))) (sym then) (past_it _ (ap (λ (x : List Placed). begins ends_name (parts_text h.parts ++ x)) (append-nil (h.held ++ fed)) ∙ gone)))
+      (subst (λ (x : TagState). HasPhase x table new h.parts (h.held ++ fed) (h.own ++ e)) (sym then) has)
 
   -- nothing is held of a part
   pub body_then : h.held ≡ [] → (text : List Placed) → body ++ text ≡ h.name ++ (parts_text h.parts ++ text)
@@ -94,10 +85,8 @@ module _ (table : Entities) (names : Texts) (walk : TagWalk) (body fed : List Pl
       → string_bytes new.attribute ≡ string_bytes walk.attribute ++ name_bytes fed → later ≡ errors ++ flat_map name_errors_here fed → all (λ c. not (ends_attribute_name c)) fed ≡ true → IsInTag table names new (body ++ fed) [] later
   letters_follow in_name new later keeps same at value bytes later_is stay =
       let n = held_in phase.AttributeName in_name in
-      let then : new.phase ≡ phase.AttributeName = same ∙ in_name in
       let e : List ParseError = flat_map name_errors_here fed in
-      goes_on new e later later_is keeps.name_is keeps.seen_is keeps.attrs_are keeps.any_is (λ c x. subst (λ (y : TagState). IsPast y c) (sym then) x) (past_is phase.AttributeName in_name)
-      (subst (λ (x : TagState). HasPhase x table new h.parts (h.held ++ fed) (h.own ++ e)) (sym then) (record {
+      goes_on new phase.AttributeName e later keeps (same ∙ in_name) later_is (λ c x. x) (past_is phase.AttributeName in_name) (record {
         has_name = record {
           first = begins-more _ h.held fed n.has_name.first;
           runs = runs_more h.held n.has_name.first n.has_name.runs stay;
@@ -107,10 +96,8 @@ module _ (table : Entities) (names : Texts) (walk : TagWalk) (body fed : List Pl
         no_value = subst NoValue (sym value) n.no_value;
         own_is = ap (λ (x : List ParseError). x ++ e) n.own_is
             ∙ append_assoc (error_if (begins is_equals h.held) UnexpectedEqualsSignBeforeAttributeName (place 0 h.held)) (flat_map name_errors_here h.held) e
-            ∙ ap (λ (x : List ParseError). error_if (begins is_equals h.held) UnexpectedEqualsSignBeforeAttributeName (place 0 h.held) ++ x) (sym (flat_map-append name_errors_here h.held fed))
-            ∙ ap (λ (b : Bool). error_if b UnexpectedEqualsSignBeforeAttributeName (place 0 h.held) ++ flat_map name_errors_here (h.held ++ fed)) (sym (equals_more h.held n.has_name.first))
-            ∙ ap (λ (x : ℕ). error_if (begins is_equals (h.held ++ fed)) UnexpectedEqualsSignBeforeAttributeName x ++ flat_map name_errors_here (h.held ++ fed)) (sym (place_more h.held n.has_name.first));
-      }))
+            ∙ (λ i. error_if (sym (equals_more h.held n.has_name.first) i) UnexpectedEqualsSignBeforeAttributeName (sym (place_more h.held n.has_name.first) i) ++ sym (flat_map-append name_errors_here h.held fed) i);
+      })
 
   -- A VALUE, which takes the characters and raises some errors
 
@@ -119,9 +106,7 @@ module _ (table : Entities) (names : Texts) (walk : TagWalk) (body fed : List Pl
         → all (λ c. not (eqb c mark)) fed ≡ true → IsInTag table names new (body ++ fed) [] later
     quoted_goes_on mark before takes others =
         let q = held_in (phase.AttributeValueQuoted mark) before in
-        let next : new.phase ≡ phase.AttributeValueQuoted mark = same ∙ before in
-        goes_on new more later later_is keeps.name_is keeps.seen_is keeps.attrs_are keeps.any_is (λ b e. subst (λ (x : TagState). IsPast x b) (sym next) e) (past_is (phase.AttributeValueQuoted mark) before)
-        (subst (λ (x : TagState). HasPhase x table new h.parts (h.held ++ fed) (h.own ++ more)) (sym next) (record {
+        goes_on new (phase.AttributeValueQuoted mark) more later keeps (same ∙ before) later_is (λ b e. e) (past_is (phase.AttributeValueQuoted mark) before) (record {
           name = q.name;
           sign = q.sign;
           quote = q.quote;
@@ -135,15 +120,13 @@ module _ (table : Entities) (names : Texts) (walk : TagWalk) (body fed : List Pl
           inside = all-append (λ c. not (eqb c mark)) q.text fed q.inside others;
           value = takes q.text q.raised (looks_ahead table true walk.value q.text fed q.raised q.value);
           own_is = ap (λ (x : List ParseError). x ++ more) q.own_is ∙ append_assoc (attribute_name_errors q.name) q.raised more;
-        }))
+        })
 
     pub unquoted_goes_on : walk.phase ≡ phase.AttributeValueUnquoted → ((text : List Placed) (own : List ParseError) → IsInValue table false walk.value text fed own → IsInValue table false new.value (text ++ fed) [] (own ++ more))
         → all (λ c. not (ends_unquoted c)) fed ≡ true → IsInTag table names new (body ++ fed) [] later
     unquoted_goes_on before takes stay =
         let n = held_in phase.AttributeValueUnquoted before in
-        let next : new.phase ≡ phase.AttributeValueUnquoted = same ∙ before in
-        goes_on new more later later_is keeps.name_is keeps.seen_is keeps.attrs_are keeps.any_is (λ b x. subst (λ (y : TagState). IsPast y b) (sym next) x) (past_is phase.AttributeValueUnquoted before)
-        (subst (λ (x : TagState). HasPhase x table new h.parts (h.held ++ fed) (h.own ++ more)) (sym next) (record {
+        goes_on new phase.AttributeValueUnquoted more later keeps (same ∙ before) later_is (λ b e. e) (past_is phase.AttributeValueUnquoted before) (record {
           name = n.name;
           sign = n.sign;
           text = n.text ++ fed;
@@ -155,4 +138,4 @@ module _ (table : Entities) (names : Texts) (walk : TagWalk) (body fed : List Pl
           inside = all-append (λ c. not (ends_unquoted c)) n.text fed n.inside stay;
           value = takes n.text n.raised (looks_ahead table false walk.value n.text fed n.raised n.value);
           own_is = ap (λ (x : List ParseError). x ++ more) n.own_is ∙ append_assoc (attribute_name_errors n.name) n.raised more;
-        }))
+        })

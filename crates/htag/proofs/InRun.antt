@@ -1,15 +1,18 @@
 -- A run of clean characters in a tag.
-use Rattle.htag.proofs.Vocabulary.{◌≡◌, ◌<◌, ◌≤◌, ℕ, ◌+◌, Bool, true, false, not, eqb, List, [], ◌∷◌, ◌++◌, length, take, drop, map, sym, refl, ap, ◌∙◌, subst, append_assoc, append-nil, arith, Some, slice_get, length-drop, and_both, and_parts, slice_index, encode_utf8_all, flat_map, list_all, prefix_len, len_utf8, length-take-le, to_ascii_lowercase, string_bytes, nat_tests, ParseError, Placed, Texts, is_equals, name_bytes, null_errors, placed, without_null, is_plain_byte, is_word_byte, all_weaker, all_placed, Entities, TagWalk, IsInTag, WholeOrNot, ends_attribute_name, ends_name, name_errors_here}
+use Rattle.htag.proofs.Vocabulary.{◌≡◌, ◌<◌, ◌≤◌, ℕ, ◌+◌, Bool, true, false, not, eqb, List, [], ◌∷◌, ◌++◌, length, take, drop, map, sym, refl, ap, ◌∙◌, subst, transport, append_assoc, append-nil, arith, Some, slice_get, length-drop, and_both, and_parts, slice_index, encode_utf8_all, flat_map, list_all, prefix_len, len_utf8, length-take-le, to_ascii_lowercase, string_bytes, nat_tests, ParseError, Placed, Texts, Grows, grows_not, grows_on, on_ok_weaker, is_equals, name_bytes, null_errors, placed, without_null, is_plain_byte, is_word_byte, all_weaker, all_placed, Entities, TagWalk, IsInTag, WholeOrNot, ends_attribute_name, ends_name, name_errors_here}
 use Rattle.std.specs.Char.{is_ascii}
 use Rattle.std.specs.Str.{chars, IsUtf8}
 use Rattle.htext.specs.Run.{IsCut}
 use Rattle.htext.proofs.Runs.{counted, plain_bytes}
-use Rattle.htext.proofs.Wide.{chars_cut, cut_more, first_char, has_characters, placed_more}
+use Rattle.htext.proofs.Wide.{chars_cut, cut_more, first_char, first_cut, has_characters, placed_more}
 -- under the names by which the crates above cite them
 pub use Rattle.charref.proofs.AtOnce.{characters-placed as characters_placed}
 pub use Rattle.htext.proofs.Runs.{counted as prefix_all}
 use Rattle.htag.specs.declared.tag_state.TagState.TheVariants as phase
-use Rattle.htag.specs.Run.{next_at, EndsOrNot, PushesWords}
+use Rattle.names.specs.declared.refusal.Refusal.{Refusal}
+use Rattle.names.specs.declared.refusal.Refusal.TheVariants.{Memory}
+use Rattle.std.specs.Prelude.{Result, Ok, Err}
+use Rattle.htag.specs.Run.{next_at, EndsOrNot, TakesFront}
 use Rattle.std.proofs.lemmas.List.{drop-drop, nil_from_length}
 use Rattle.std.proofs.lemmas.Str.{chars-nil, len_utf8_ascii}
 use Rattle.htag.proofs.Ascii.{ascii_chars, ascii_cut, ascii_taken}
@@ -105,20 +108,35 @@ module _ (at count : ℕ) (run : List ℕ) where
   pub text_more : (body : List Placed) (more : ℕ) → IsCut count run → IsCut more (drop count run) → (body ++ placed at (chars (take count run))) ++ placed (at + count) (chars (take more (drop count run))) ≡ body ++ placed at (chars (take (count + more) run))
   text_more body more cut again = append_assoc body (placed at (chars (take count run))) (placed (at + count) (chars (take more (drop count run)))) ∙ ap (λ (x : List Placed). body ++ x) (sym (placed_more count more run cut again at))
 
--- as where the rest of a run is taken
-module _ (table : Entities) (at count : ℕ) (run rest : List ℕ) (body : List Placed) (rest_is : rest ≡ drop count run) (cut : IsCut count run) where
-  pub cut_in_rest : (more : ℕ) → IsCut more rest → IsCut (count + more) run
-  cut_in_rest more again = cut_more count more run cut (subst (IsCut more) rest_is again)
+-- the front of a run has been taken, and what is left of it comes next
+pub known_in_rest : (table : Entities) (names : Texts) (walk : TagWalk) (body : List Placed) (errors : List ParseError) (at count : ℕ) (run rest : List ℕ) → rest ≡ drop count run → IsInTag table names walk body (next_at at run count) errors → IsInTag table names walk body (next_at (at + count) rest 0) errors
+known_in_rest table names walk body errors at count run rest rest_is h = transport (λ t. IsInTag table names walk body ((next_on at count run ∙ (λ i. next_at (at + count) (sym rest_is i) 0)) t) errors) h
 
-  pub known_in_rest : (names : Texts) (walk : TagWalk) (errors : List ParseError) → IsInTag table names walk (body ++ placed at (chars (take count run))) (next_at at run count) errors → IsInTag table names walk (body ++ placed at (chars (take count run))) (next_at (at + count) rest 0) errors
-  known_in_rest names walk errors h = subst (λ (x : List Placed). IsInTag table names walk (body ++ placed at (chars (take count run))) x errors) (next_on at count run ∙ ap (λ (x : List ℕ). next_at (at + count) x 0) (sym rest_is)) h
+-- nothing has been taken, and then this is
+pub none_front : (table : Entities) (names : Texts) (at : ℕ) (run : List ℕ) (walk : TagWalk) (errors : List ParseError) → IsUtf8 run → TakesFront table names names at run walk errors (Ok (0, false)) walk errors
+none_front table names at run walk errors u = record { cut = none_cut run u; takes = λ body h. none_taken table names walk body (next_at at run 0) errors at run h; grows = grows_not names; kind = refl }
 
-  pub taken_in_rest : (names : Texts) (walk : TagWalk) (errors : List ParseError) (more : ℕ) → IsCut more rest → (ended : Bool) → EndsOrNot ended table names walk ((body ++ placed at (chars (take count run))) ++ placed (at + count) (chars (take more rest))) (next_at (at + count) rest more) errors
-      → EndsOrNot ended table names walk (body ++ placed at (chars (take (count + more) run))) (next_at at run (count + more)) errors
-  taken_in_rest names walk errors more again ended h =
-      subst (λ (x : List Placed). EndsOrNot ended table names walk x (next_at at run (count + more)) errors) (text_more at count run body more cut (subst (IsCut more) rest_is again))
-      (subst (λ (x : List Placed). EndsOrNot ended table names walk ((body ++ placed at (chars (take count run))) ++ placed (at + count) (chars (take more (drop count run)))) x errors) (next_more at count run more)
-      (subst (λ (x : List ℕ). EndsOrNot ended table names walk ((body ++ placed at (chars (take count run))) ++ placed (at + count) (chars (take more x))) (next_at (at + count) x more) errors) rest_is h))
+module _ (table : Entities) (before mid after : Texts) (at count : ℕ) (run : List ℕ) (old walk new : TagWalk) (errors now later : List ParseError) (first : TakesFront table before mid at run old errors (Ok (count, false)) walk now) where
+  pub after_none : (answer : Result (ℕ × Bool) Refusal) → count ≡ 0 → TakesFront table mid after at run walk now answer new later → TakesFront table before after at run old errors answer new later
+  after_none answer none then = record {
+    cut = then.cut;
+    takes = λ body h. then.takes body (none_gone table mid walk body now at count run none (first.takes body h));
+    grows = grows_on before mid after first.grows then.grows;
+    kind = on_ok_weaker answer (λ is. is ∙ first.kind) then.kind;
+  }
+
+  -- so much of a run, and more of it
+  pub front_more : (rest : List ℕ) → rest ≡ drop count run → (more : ℕ) (ended : Bool) → TakesFront table mid after (at + count) rest walk now (Ok (more, ended)) new later → TakesFront table before after at run old errors (Ok (count + more, ended)) new later
+  front_more rest rest_is more ended then =
+      let again : IsCut more (drop count run) = subst (IsCut more) rest_is then.cut in
+      record {
+        cut = cut_more count more run first.cut again;
+        takes = λ body h.
+            transport (λ t. EndsOrNot ended table after new (((λ i. (body ++ placed at (chars (take count run))) ++ placed (at + count) (chars (take more (rest_is i)))) ∙ text_more at count run body more first.cut again) t) (((λ i. next_at (at + count) (rest_is i) more) ∙ next_more at count run more) t) later)
+            (then.takes (body ++ placed at (chars (take count run))) (known_in_rest table mid walk (body ++ placed at (chars (take count run))) now at count run rest rest_is (first.takes body h)));
+        grows = grows_on before mid after first.grows then.grows;
+        kind = then.kind ∙ first.kind;
+      }
 
 -- the first character of a run
 pub begins_with : (cs : List ℕ) (c : ℕ) → slice_get cs 0 ≡ Some c → (rest : List ℕ) × (cs ≡ c ∷ rest)
@@ -140,28 +158,36 @@ begins_ascii (x ∷ xs) ch some is ascii u =
 pub begins_end : (run : List ℕ) (ch : ℕ) → 0 < length run → ch ≡ slice_index run 0 → ends_name ch ≡ true → IsUtf8 run → (chars run ≡ ch ∷ chars (drop 1 run)) × (1 ≡ len_utf8 ch)
 begins_end run ch some is ends u = begins_ascii run ch some is (grind (arith, ends, nat_tests)) u
 
--- it is known to come next, and it has been taken
-module _ (table : Entities) (names : Texts) (walk : TagWalk) (body : List Placed) (errors : List ParseError) (at : ℕ) (run rest : List ℕ) (ch : ℕ) (is : chars run ≡ ch ∷ rest) where
-  pub first_known : IsInTag table names walk body (next_at at run 0) errors → IsInTag table names walk body (record { ch = ch; at = at } ∷ []) errors
-  first_known h = subst (λ (x : List Placed). IsInTag table names walk body x errors) (next_first at run rest ch is) h
+-- it is known to come next, and is taken
+pub first_known : (table : Entities) (names : Texts) (walk : TagWalk) (body : List Placed) (errors : List ParseError) (at : ℕ) (run rest : List ℕ) (ch : ℕ) → chars run ≡ ch ∷ rest → IsInTag table names walk body (next_at at run 0) errors → IsInTag table names walk body (record { ch = ch; at = at } ∷ []) errors
+first_known table names walk body errors at run rest ch is h = transport (λ t. IsInTag table names walk body (next_first at run rest ch is t) errors) h
 
-  pub first_taken : (count : ℕ) → count ≡ len_utf8 ch → IsUtf8 run → (ended : Bool) → WholeOrNot ended table names walk (body ++ record { ch = ch; at = at } ∷ []) errors
-      → EndsOrNot ended table names walk (body ++ placed at (chars (take count run))) (next_at at run count) errors
-  first_taken count long u ended h =
-      subst (λ (x : List Placed). EndsOrNot ended table names walk (body ++ x) (next_at at run count) errors) (first_char run u ch rest is at ∙ ap (λ (n : ℕ). placed at (chars (take n run))) (sym long)) (ahead ended h) where
-        ahead : (b : Bool) → WholeOrNot b table names walk (body ++ record { ch = ch; at = at } ∷ []) errors → EndsOrNot b table names walk (body ++ record { ch = ch; at = at } ∷ []) (next_at at run count) errors
-        ahead true it = it
-        ahead false it = looks_ahead table names walk (body ++ record { ch = ch; at = at } ∷ []) errors it (next_at at run count)
+module _ (table : Entities) (before after : Texts) (at : ℕ) (run rest : List ℕ) (old new : TagWalk) (errors later : List ParseError) (ch : ℕ) (is : chars run ≡ ch ∷ rest) where
+  pub first_front : (count : ℕ) (ended : Bool) → count ≡ len_utf8 ch → IsUtf8 run → Grows before after → new.kind ≡ old.kind → ((body : List Placed) → IsInTag table before old body (record { ch = ch; at = at } ∷ []) errors → WholeOrNot ended table after new (body ++ record { ch = ch; at = at } ∷ []) later)
+      → TakesFront table before after at run old errors (Ok (count, ended)) new later
+  first_front count ended long u grows kind takes = record {
+    cut = subst (λ (n : ℕ). IsCut n run) (sym long) (first_cut run u ch rest is);
+    takes = λ body h.
+        transport (λ t. EndsOrNot ended table after new (body ++ (first_char run u ch rest is at ∙ (λ i. placed at (chars (take (sym long i) run)))) t) (next_at at run count) later) (ahead body ended (takes body (first_known table before old body errors at run rest ch is h)));
+    grows = grows;
+    kind = kind;
+  } where
+    ahead : (body : List Placed) (b : Bool) → WholeOrNot b table after new (body ++ record { ch = ch; at = at } ∷ []) later → EndsOrNot b table after new (body ++ record { ch = ch; at = at } ∷ []) (next_at at run count) later
+    ahead body true it = it
+    ahead body false it = looks_ahead table after new (body ++ record { ch = ch; at = at } ∷ []) later it (next_at at run count)
+
+  pub first_refused : (e : Refusal) → Grows before after → ((body : List Placed) → IsInTag table before old body (record { ch = ch; at = at } ∷ []) errors → e ≡ Memory) → TakesFront table before after at run old errors (Err e) new later
+  first_refused e grows none = record { cut = tt; takes = λ body h. none body (first_known table before old body errors at run rest ch is h); grows = grows; kind = tt }
 
 -- the tag's name goes on
 pub words_in_name : (table : Entities) (names : Texts) (walk : TagWalk) (body ahead : List Placed) (errors : List ParseError) → IsInTag table names walk body ahead errors → walk.phase ≡ phase.TagName
-    → (new : TagWalk) → new.phase ≡ walk.phase → new.seen ≡ walk.seen → new.attrs ≡ walk.attrs → new.any ≡ walk.any → (at count : ℕ) (run : List ℕ) → PushesWords (string_bytes walk.name) run count (string_bytes new.name)
+    → (new : TagWalk) → new.phase ≡ walk.phase → new.seen ≡ walk.seen → new.attrs ≡ walk.attrs → new.any ≡ walk.any → (at count : ℕ) (run : List ℕ) → count ≤ length run → list_all is_word_byte (take count run) ≡ true → string_bytes new.name ≡ string_bytes walk.name ++ take count run
     → IsInTag table names new (body ++ placed at (chars (take count run))) (next_at at run count) errors
-words_in_name table names walk body ahead errors h before new same seen attrs any at count run adds =
+words_in_name table names walk body ahead errors h before new same seen attrs any at count run few are bytes =
     let words = take count run in
-    let text : chars words ≡ words = ascii_taken count run adds.few (all_weaker is_word_byte is_ascii word_ascii words adds.words) in
+    let text : chars words ≡ words = ascii_taken count run few (all_weaker is_word_byte is_ascii word_ascii words are) in
     subst (λ (x : List ℕ). IsInTag table names new (body ++ placed at x) (next_at at run count) errors) (sym text)
     (looks_ahead table names new (body ++ placed at words) errors
-    (name_grows table names walk body ahead errors h before (placed at words) new errors same seen attrs any (adds.bytes ∙ ap (λ (x : List ℕ). string_bytes walk.name ++ x) (sym (word_bytes at words adds.words)))
-    (sym (append-nil errors) ∙ ap (λ (x : List ParseError). errors ++ x) (sym (word_nulls at words adds.words))) (all_placed _ at words (all_weaker is_word_byte _ word_in_name words adds.words)))
+    (name_grows table names walk body ahead errors h before (placed at words) new errors same seen attrs any (bytes ∙ ap (λ (x : List ℕ). string_bytes walk.name ++ x) (sym (word_bytes at words are)))
+    (sym (append-nil errors) ∙ ap (λ (x : List ParseError). errors ++ x) (sym (word_nulls at words are))) (all_placed _ at words (all_weaker is_word_byte _ word_in_name words are)))
     (next_at at run count))

@@ -1,5 +1,5 @@
 -- A value, a character at a time.
-use Rattle.htag.proofs.Vocabulary.{◌≡◌, ℕ, zero, suc, ◌+◌, ◌-◌, ◌≤◌, Bool, true, false, true≢false, ◌&&◌, eqb, List, [], ◌∷◌, ◌++◌, length, take, drop, sym, refl, ap, ◌∙◌, subst, append-nil, append_assoc, arith, Vec, Global, encode_utf8_all, encode_utf8, string_bytes, take-append-drop, take_all, encodes-append, UnknownNamedCharacterReference, ParseError, Placed, characters, begins, all, past, is_alphanumeric, error_if, and_parts, and_both, Reference, IsRead, characters_of, errors_of, Entities, Piece, IsReference, IsTable, ampersand, all-append, Pending, ValueWalk, IsValuePiece, AreValue, pieces_text, value_bytes, BeginsPiece, HasHeld, IsInValue, pieces_errors, plain_pieces, reference_errors, nat_tests}
+use Rattle.htag.proofs.Vocabulary.{◌≡◌, ℕ, zero, suc, ◌+◌, ◌-◌, ◌≤◌, Bool, true, false, true≢false, ◌&&◌, eqb, List, [], ◌∷◌, ◌++◌, length, take, drop, sym, refl, ap, ◌∙◌, subst, transport, append-nil, append_assoc, arith, encode_utf8_all, encode_utf8, string_bytes, take-append-drop, take_all, encodes-append, UnknownNamedCharacterReference, ParseError, Placed, characters, begins, all, past, is_alphanumeric, error_if, and_parts, and_both, Reference, IsRead, characters_of, errors_of, Entities, Piece, IsReference, IsTable, ampersand, all-append, Pending, ValueWalk, IsValuePiece, AreValue, pieces_text, value_bytes, BeginsPiece, HasHeld, IsInValue, pieces_errors, plain_pieces, reference_errors, nat_tests}
 use Rattle.std.proofs.lemmas.Bool.{and_right}
 use Rattle.std.proofs.Common.{length-append}
 use Rattle.std.proofs.lemmas.List.{take-append-le, drop-append-le, drop-map, drop_all, length-map, map-append}
@@ -9,7 +9,7 @@ use Rattle.charref.specs.Held.{is_number, held_characters}
 use Rattle.charref.specs.Walk.{WalkHasTaken, LeavesLast}
 use Rattle.charref.proofs.Keeping.{kept_all, kept_nothing, is_other, drop-kept, drop-kept-end}
 use Rattle.htag.specs.AtOnce.{is_no_reference}
-use Rattle.htag.specs.declared.pending.Pending.TheVariants as reading
+use Rattle.htag.specs.declared.piece.Pending.TheVariants as reading
 use Rattle.htag.specs.ValueWalk.{InReference, InAmbiguousAmpersand, IsWholeValue, TellsReference}
 use Rattle.htag.proofs.Pieces.{pieces_text-append, pieces_text-one, value_bytes-append, value_bytes-one, pieces_errors-append, is_even, errors-even, is_quiet, quiet_run, quiet_plain, plain_text, plain_bytes, plain_errors, begins_alone, begins_further, begins_piece, begins_plain}
 use Rattle.htag.proofs.Even.{quiet_held, reference_even, alone_even}
@@ -54,14 +54,11 @@ module _ (pieces : List Piece) (piece : Piece) (back : List Placed) (quiet : all
   all_pieces = (pieces ++ piece ∷ []) ++ plain_pieces back
 
   resolved_text : pieces_text all_pieces ≡ pieces_text pieces ++ (piece.text ++ back)
-  resolved_text =
-      pieces_text-append (pieces ++ piece ∷ []) (plain_pieces back) ∙ ap (λ (x : List Placed). x ++ pieces_text (plain_pieces back)) (pieces_text-one pieces piece)
-      ∙ ap (λ (x : List Placed). (pieces_text pieces ++ piece.text) ++ x) (plain_text back) ∙ append_assoc (pieces_text pieces) piece.text back
+  resolved_text = pieces_text-append (pieces ++ piece ∷ []) (plain_pieces back) ∙ (λ i. pieces_text-one pieces piece i ++ plain_text back i) ∙ append_assoc (pieces_text pieces) piece.text back
 
   resolved_bytes : value_bytes all_pieces ≡ value_bytes pieces ++ (encode_utf8_all piece.gives ++ encode_utf8_all (characters back))
   resolved_bytes =
-      value_bytes-append (pieces ++ piece ∷ []) (plain_pieces back) ∙ ap (λ (x : List ℕ). x ++ value_bytes (plain_pieces back)) (value_bytes-one pieces piece)
-      ∙ ap (λ (x : List ℕ). (value_bytes pieces ++ encode_utf8_all piece.gives) ++ x) (plain_bytes back quiet) ∙ append_assoc (value_bytes pieces) (encode_utf8_all piece.gives) (encode_utf8_all (characters back))
+      value_bytes-append (pieces ++ piece ∷ []) (plain_pieces back) ∙ (λ i. value_bytes-one pieces piece i ++ plain_bytes back quiet i) ∙ append_assoc (value_bytes pieces) (encode_utf8_all piece.gives) (encode_utf8_all (characters back))
 
   resolved_errors : (quoted : Bool) → is_even piece.text → pieces_errors quoted all_pieces ≡ pieces_errors quoted pieces ++ piece.errors
   resolved_errors quoted even =
@@ -95,9 +92,7 @@ module _ (pieces : List Piece) (piece : Piece) (back : List Placed) (quiet : all
 pub told_then_given : (found : Reference) (old mid : ValueWalk) (errors later : List ParseError) (count : ℕ) (bytes : List ℕ) → TellsReference found old errors mid later
     → bytes ≡ string_bytes mid.text ++ encode_utf8_all (drop (length mid.held.items - count) mid.held.items)
     → bytes ≡ (string_bytes old.text ++ encode_utf8_all (characters_of found.characters)) ++ encode_utf8_all (drop (length old.held.items - count) old.held.items)
-told_then_given found old mid errors later count bytes t e =
-    e ∙ ap (λ (x : List ℕ). x ++ encode_utf8_all (drop (length mid.held.items - count) mid.held.items)) t.bytes
-    ∙ ap (λ (x : Vec ℕ Global). (string_bytes old.text ++ encode_utf8_all (characters_of found.characters)) ++ encode_utf8_all (drop (length x.items - count) x.items)) t.held_is
+told_then_given found old mid errors later count bytes t e = e ∙ (λ i. t.bytes i ++ encode_utf8_all (drop (length (t.held_is i).items - count) (t.held_is i).items))
 
 -- CHARACTERS MORE, where nothing is held
 
@@ -200,10 +195,7 @@ module _ (table : Entities) (quoted : Bool) (old new : ValueWalk) (p : Placed) (
 
         is_piece : (front back : List Placed) → take (length all_taken - found.left) all_taken ≡ front → drop (length all_taken - found.left) all_taken ≡ back → (rest : List Placed) → IsReference table true (back ++ rest) (piece_of front)
         is_piece front back taken left rest =
-            subst (λ (x : List Placed). IsReference table true (x ++ rest) (piece_of front)) left
-            (subst (λ (x : List Placed). IsReference table true (drop (length all_taken - found.left) all_taken ++ rest) (piece_of x)) taken
-            (subst (λ (x : List ParseError). IsReference table true (drop (length all_taken - found.left) all_taken ++ rest) (record { text = held_here.amp ∷ take (length all_taken - found.left) all_taken; gives = characters_of found.characters; errors = x })) (errors_known rest)
-            ((read held_here.taken held_here.has_taken rest).reads held_here.amp held_here.is_amp)))
+            transport (λ i. IsReference table true (left i ++ rest) (record { text = held_here.amp ∷ taken i; gives = characters_of found.characters; errors = errors_known rest i })) ((read held_here.taken held_here.has_taken rest).reads held_here.amp held_here.is_amp)
 
         told_here : own ++ reference_errors found held_here.amp.at ≡ own ++ reference_errors found old.at
         told_here = ap (λ (x : ℕ). own ++ reference_errors found x) (sym held_here.at_is)
@@ -241,8 +233,7 @@ module _ (table : Entities) (quoted : Bool) (old new : ValueWalk) (p : Placed) (
             let joined : h.held ≡ (held_here.amp ∷ front) ++ back = held_here.held_is ∙ ap (λ (x : List Placed). held_here.amp ∷ x) (sym (take-append-drop k taken)) in
             subst (IsInValue table quoted new text (p ∷ [])) told_here
             (resolve h.pieces (piece_of front) back quiet table quoted new text own (reference_even table true ((back ++ p ∷ []) ++ []) (piece_of front) held_here.is_table (is []))
-            (bytes ∙ ap (λ (x : List ℕ). (x ++ encode_utf8_all (characters_of found.characters)) ++ encode_utf8_all (drop (length old.held.items - (found.left - 1)) old.held.items)) held_here.bytes
-            ∙ ap (λ (x : List ℕ). (value_bytes h.pieces ++ encode_utf8_all (characters_of found.characters)) ++ encode_utf8_all x) given ∙ append_assoc (value_bytes h.pieces) (encode_utf8_all (characters_of found.characters)) (encode_utf8_all (characters back)))
+            (bytes ∙ (λ i. (held_here.bytes i ++ encode_utf8_all (characters_of found.characters)) ++ encode_utf8_all (given i)) ∙ append_assoc (value_bytes h.pieces) (encode_utf8_all (characters_of found.characters)) (encode_utf8_all (characters back)))
             (h.text_is ∙ ap (λ (x : List Placed). pieces_text h.pieces ++ x) joined) h.errors_are (p ∷ [])
             (subst (BeginsPiece table h.pieces) (ap (λ (x : List Placed). x ++ p ∷ []) joined ∙ append_assoc (held_here.amp ∷ front) back (p ∷ [])) h.begins_value) (λ rest. IsValuePiece.reference (is rest)) nothing)
 
@@ -253,6 +244,7 @@ module _ (table : Entities) (quoted : Bool) (old new : ValueWalk) (p : Placed) (
       run_begins is_ambiguous next place bytes =
           let taken : List Placed = held_here.taken in
           let reads : (after : List Placed) → IsRead table true all_taken after found = read taken held_here.has_taken in
+          let kept : old.held.items ≡ characters taken = held_here.kept_is ∙ ap characters (kept_all w.state taken (is_other w.state (λ n. true≢false (sym is_ambiguous ∙ (number n).0)))) in
           held_more reading.AmbiguousAmpersand next (reference_errors found old.at) (ap (reference_errors found) held_here.at_is ∙ run_quiet table held_here.amp held_here.is_amp all_taken found reads is_ambiguous) (record {
             amp = held_here.amp;
             run = all_taken;
@@ -261,10 +253,8 @@ module _ (table : Entities) (quoted : Bool) (old new : ValueWalk) (p : Placed) (
             is_run = run_letters table held_here.amp held_here.is_amp all_taken found reads is_ambiguous;
             unknown = run_unknown table held_here.amp held_here.is_amp all_taken found reads is_ambiguous;
             at_is = place ∙ held_here.at_is;
-            bytes = bytes ∙ ap (λ (x : List ℕ). ((x ++ encode_utf8_all (characters_of found.characters)) ++ encode_utf8_all old.held.items) ++ encode_utf8 p.ch) held_here.bytes
-                ∙ ap (λ (x : List ℕ). ((value_bytes h.pieces ++ encode_utf8_all x) ++ encode_utf8_all old.held.items) ++ encode_utf8 p.ch) (run_gives table held_here.amp held_here.is_amp all_taken found reads is_ambiguous)
-                ∙ ap (λ (x : List ℕ). ((value_bytes h.pieces ++ encode_utf8_all (38 ∷ [])) ++ encode_utf8_all x) ++ encode_utf8 p.ch) (held_here.kept_is ∙ ap characters (kept_all w.state taken (is_other w.state (λ n. true≢false (sym is_ambiguous ∙ (number n).0)))))
-                ∙ ap (λ (x : List ℕ). x ++ encode_utf8 p.ch) (append_assoc (value_bytes h.pieces) (encode_utf8_all (38 ∷ [])) (encode_utf8_all (characters taken)) ∙ ap (λ (x : List ℕ). value_bytes h.pieces ++ x) (sym (encodes-append (38 ∷ []) (characters taken))))
+            bytes = bytes ∙ (λ i. ((held_here.bytes i ++ encode_utf8_all (run_gives table held_here.amp held_here.is_amp all_taken found reads is_ambiguous i)) ++ encode_utf8_all (kept i)) ++ encode_utf8 p.ch)
+                ∙ ap (λ (x : List ℕ). x ++ encode_utf8 p.ch) (append_assoc (value_bytes h.pieces) (encode_utf8_all (38 ∷ [])) (encode_utf8_all (characters taken)) ∙ (λ i. value_bytes h.pieces ++ sym (encodes-append (38 ∷ []) (characters taken)) i))
                 ∙ one_more_encoded (value_bytes h.pieces) (38 ∷ characters taken) p.ch ∙ ap (λ (x : List ℕ). value_bytes h.pieces ++ encode_utf8_all (38 ∷ x)) (sym (map-append (λ (q : Placed). q.ch) taken (p ∷ [])));
           })
 
@@ -344,8 +334,7 @@ module _ (table : Entities) (quoted : Bool) (old new : ValueWalk) (text : List P
         let piece : Piece = record { text = r.amp ∷ front; gives = characters_of found.characters; errors = reference_errors found r.amp.at } in
         let errors : errors_of found r.amp.at [] ≡ reference_errors found r.amp.at = ap (λ (b : Bool). reference_errors found r.amp.at ++ error_if b UnknownNamedCharacterReference r.amp.at) (and_right found.is_ambiguous false refl) ∙ append-nil (reference_errors found r.amp.at) in
         let is : IsReference table true back piece =
-        subst (λ (x : List ParseError). IsReference table true back (record { text = r.amp ∷ front; gives = characters_of found.characters; errors = x })) errors
-        (subst (λ (x : List Placed). IsReference table true x (record { text = r.amp ∷ front; gives = characters_of found.characters; errors = errors_of found r.amp.at [] })) (append-nil back) ((read r.taken r.has_taken).reads r.amp r.is_amp)) in
+        transport (λ i. IsReference table true (append-nil back i) (record { text = r.amp ∷ front; gives = characters_of found.characters; errors = errors i })) ((read r.taken r.has_taken).reads r.amp r.is_amp) in
         let quiet : all is_quiet back ≡ true = quiet_drop k r.taken (quiet_held table true w.state r.taken r.has_taken.held) in
         let kept_here : List Placed = held_characters w.state r.taken in
         let given : drop (length old.held.items - found.left) old.held.items ≡ characters back =
@@ -354,6 +343,5 @@ module _ (table : Entities) (quoted : Bool) (old new : ValueWalk) (text : List P
         let joined : h.held ≡ (r.amp ∷ front) ++ back = r.held_is ∙ ap (λ (x : List Placed). r.amp ∷ x) (sym (take-append-drop k r.taken)) in
         subst (λ (x : ℕ). IsWholeValue table quoted new text (own ++ reference_errors found x)) (sym r.at_is)
         (resolve_end h.pieces piece back quiet table quoted new text own (reference_even table true back piece r.is_table is)
-        (bytes ∙ ap (λ (x : List ℕ). (x ++ encode_utf8_all (characters_of found.characters)) ++ encode_utf8_all (drop (length old.held.items - found.left) old.held.items)) r.bytes
-        ∙ ap (λ (x : List ℕ). (value_bytes h.pieces ++ encode_utf8_all (characters_of found.characters)) ++ encode_utf8_all x) given ∙ append_assoc (value_bytes h.pieces) (encode_utf8_all (characters_of found.characters)) (encode_utf8_all (characters back)))
+        (bytes ∙ (λ i. (r.bytes i ++ encode_utf8_all (characters_of found.characters)) ++ encode_utf8_all (given i)) ∙ append_assoc (value_bytes h.pieces) (encode_utf8_all (characters_of found.characters)) (encode_utf8_all (characters back)))
         (h.text_is ∙ ap (λ (x : List Placed). pieces_text h.pieces ++ x) joined) h.errors_are (subst (BeginsPiece table h.pieces) joined begins_end) (IsValuePiece.reference is))

@@ -1,6 +1,6 @@
 -- Parts of a tag, one by one.
 use Rattle.std.proofs.Math.Bool.{or-false}
-use Rattle.htag.proofs.Vocabulary.{◌≡◌, ℕ, Bool, true, false, ◌||◌, List, [], ◌∷◌, ◌++◌, sym, refl, ap, ◌∙◌, subst, append_assoc, append-nil, Option, None, is_some, Vec, Global, flat_map-append, ParseError, Placed, begins, stops, all, is_space, past, Texts, and_parts, Entities, Attr, Seen, TagWalk, AttrsMean, HasSeen, Attribute, Part, IsPart, AreParts, parts_text, part_errors_after, attributes_after, has_attribute, named_by, kept_attribute, repeated, names_after, NumbersMean, HasAttributes, arith, nat_tests, tag_errors, null_errors}
+use Rattle.htag.proofs.Vocabulary.{◌≡◌, ℕ, Bool, true, false, ◌||◌, List, [], ◌∷◌, ◌++◌, sym, refl, ap, ◌∙◌, subst, transport, append_assoc, append-nil, Option, None, is_some, Vec, Global, flat_map-append, ParseError, Placed, begins, stops, all, is_space, past, Texts, and_parts, Entities, Attr, TagWalk, AttrsMean, HasSeen, Attribute, Part, IsPart, AreParts, parts_text, part_errors_after, attributes_after, has_attribute, named_by, kept_attribute, repeated, names_after, NumbersMean, HasAttributes, KeepsTag, arith, nat_tests, tag_errors, null_errors}
 -- under the names by which they are cited
 pub use Rattle.names.proofs.Words.{begins-append as begins-more, all-one as all-snoc}
 
@@ -50,25 +50,26 @@ pub any-snoc : (parts : List Part) (part : Part) → has_attribute (parts ++ par
 any-snoc [] part = grind (arith, nat_tests)
 any-snoc (x ∷ xs) part = grind (arith, nat_tests, any-snoc xs part)
 
--- a part without an attribute changes no attributes
-pub holds_plain : (names : Texts) (walk new : TagWalk) (parts : List Part) (part : Part) → part.attribute ≡ None → new.seen ≡ walk.seen → new.attrs ≡ walk.attrs → new.any ≡ walk.any → HasAttributes names walk parts → HasAttributes names new (parts ++ part ∷ [])
-holds_plain names walk new parts part none seen attrs any h = record {
-  numbers = h.numbers;
-  seen = subst (λ (x : Seen). HasSeen x h.numbers) (sym seen) h.seen;
-  named = subst (NumbersMean names h.numbers) (sym (names-snoc [] parts part ∙ ap (λ (a : Option Attribute). named_by a ++ names_after [] parts) none)) h.named;
-  attributes = subst (λ (x : Vec Attr Global). AttrsMean names x.items (attributes_after [] (parts ++ part ∷ []))) (sym attrs)
-      (subst (AttrsMean names walk.attrs.items) (sym (attributes-snoc [] parts part ∙ ap (λ (a : Option Attribute). attributes_after [] parts ++ kept_attribute (names_after [] parts) a) none ∙ append-nil (attributes_after [] parts))) h.attributes);
-  any = any ∙ h.any ∙ sym (any-snoc parts part ∙ ap (λ (a : Option Attribute). has_attribute parts || is_some a) none ∙ or-false (has_attribute parts));
-}
-
 pub holds_same : (names : Texts) (walk new : TagWalk) (parts : List Part) → new.seen ≡ walk.seen → new.attrs ≡ walk.attrs → new.any ≡ walk.any → HasAttributes names walk parts → HasAttributes names new parts
 holds_same names walk new parts seen attrs any h = record {
   numbers = h.numbers;
-  seen = subst (λ (x : Seen). HasSeen x h.numbers) (sym seen) h.seen;
+  seen = transport (λ t. HasSeen (sym seen t) h.numbers) h.seen;
   named = h.named;
   attributes = subst (λ (x : Vec Attr Global). AttrsMean names x.items (attributes_after [] parts)) (sym attrs) h.attributes;
   any = any ∙ h.any;
 }
+
+-- a part without an attribute changes no attributes
+pub holds_plain : (names : Texts) (walk new : TagWalk) (parts : List Part) (part : Part) → part.attribute ≡ None → KeepsTag walk new → HasAttributes names walk parts → HasAttributes names new (parts ++ part ∷ [])
+holds_plain names walk new parts part none keeps has =
+    let h : HasAttributes names new parts = holds_same names walk new parts keeps.seen_is keeps.attrs_are keeps.any_is has in
+    record {
+      numbers = h.numbers;
+      seen = h.seen;
+      named = transport (λ t. NumbersMean names h.numbers (sym (names-snoc [] parts part ∙ (λ i. named_by (none i) ++ names_after [] parts)) t)) h.named;
+      attributes = transport (λ t. AttrsMean names new.attrs.items (sym (attributes-snoc [] parts part ∙ (λ i. attributes_after [] parts ++ kept_attribute (names_after [] parts) (none i)) ∙ append-nil (attributes_after [] parts)) t)) h.attributes;
+      any = h.any ∙ sym (any-snoc parts part ∙ ap (λ (a : Option Attribute). has_attribute parts || is_some a) none ∙ or-false (has_attribute parts));
+    }
 
 -- past white space
 pub past-space : (space : List Placed) (p : Placed) (rest : List Placed) → all is_space space ≡ true → is_space p.ch ≡ false → past is_space (space ++ p ∷ rest) ≡ p ∷ rest

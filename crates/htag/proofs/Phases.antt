@@ -1,10 +1,10 @@
 -- A tag, a character at a time.
-use Rattle.htag.proofs.Vocabulary.{◌≡◌, ℕ, true, false, not, List, [], ◌∷◌, ◌++◌, sym, refl, ap, ◌∙◌, subst, append_assoc, append-nil, None, encode_utf8, to_ascii_lowercase, string_bytes, UnexpectedEqualsSignBeforeAttributeName, ParseError, Placed, Texts, characters, begins, is_space, is_equals, is_greater, error, error_if, without_null, and_both, Entities, TagState, TagWalk, Part, IsPart, AreParts, parts_text, tag_errors, tag_close, ends_name, ends_attribute_name, attribute_name_errors, name_errors_here, attribute_part, repeated, names_after, HasAttributes, HasName, InAttributeName, HasPhase, IsPast, IsInTag, IsWholeTag, KeepsTag, EndsAttribute}
+use Rattle.htag.proofs.Vocabulary.{◌≡◌, ℕ, true, false, not, List, [], ◌∷◌, ◌++◌, sym, refl, ap, ◌∙◌, subst, append_assoc, append-nil, None, encode_utf8, to_ascii_lowercase, string_bytes, UnexpectedEqualsSignBeforeAttributeName, ParseError, Placed, Texts, characters, begins, is_equals, is_greater, error, error_if, without_null, and_both, Entities, TagWalk, Part, IsPart, AreParts, parts_text, tag_errors, tag_close, ends_name, ends_attribute_name, attribute_name_errors, name_errors_here, attribute_part, repeated, names_after, HasAttributes, HasName, InAttributeName, IsInTag, IsWholeTag, KeepsTag, EndsAttribute}
 use Rattle.names.specs.declared.error.ErrorCode.TheVariants.{UnexpectedSolidusInTag}
 use Rattle.htag.specs.declared.tag_state.TagState.TheVariants as phase
 use Rattle.htag.specs.Steps.{AddsToName, BeginsAttribute}
 use Rattle.htag.proofs.Going.{Past, past_is, held_in, body_more, goes_on, part_read, attribute_told, letters_follow}
-use Rattle.htag.proofs.Parts.{holds_plain, holds_same, past-space}
+use Rattle.htag.proofs.Parts.{holds_plain, holds_same}
 
 abbrev pub space_part : Placed → Part
 space_part p = record { text = p ∷ []; attribute = None; errors = [] }
@@ -29,6 +29,23 @@ module _ (table : Entities) (names : Texts) (walk : TagWalk) (body : List Placed
       let ended = attribute_told table names walk body (p ∷ []) errors h mid_walk keeps attribute at name others value e' has value_is mid after new later ends in
       part_ends part text is after new e later own (ended.1 ∙ ap (λ (x : List ParseError). x ++ repeated (names_after [] h.parts) part.attribute) mid_is) (ends.name_is ∙ keeps.name_is) ends.phase_is ended.0 gone
 
+  -- the tag has ended with the character
+  whole_tag : (new : TagWalk) (close : List Placed) → KeepsTag walk new → h.held ++ p ∷ [] ≡ close → h.own ≡ [] → Past table names walk body (p ∷ []) errors h ≡ true → characters close ≡ tag_close new.closing → IsWholeTag table names new (body ++ p ∷ []) errors
+  whole_tag new close keeps is none gone closes = record {
+    name = h.name;
+    parts = h.parts;
+    close = close;
+    body_is = body_more table names walk body (p ∷ []) errors h ∙ (λ i. h.name ++ (parts_text h.parts ++ is i));
+    first = h.first;
+    passes = h.passes;
+    name_is = ap string_bytes keeps.name_is ∙ h.name_is;
+    are_parts = λ end rest. subst (AreParts table end h.parts) (sym (append_assoc h.held (p ∷ []) rest) ∙ (λ i. is i ++ rest)) (h.are_parts end rest);
+    errors_are = h.errors_are ∙ ap (λ (x : List ParseError). tag_errors h.name h.parts ++ x) none ∙ append-nil (tag_errors h.name h.parts);
+    has_attributes = holds_same names walk new h.parts keeps.seen_is keeps.attrs_are keeps.any_is h.has_attributes;
+    ends = (λ i. begins ends_name (parts_text h.parts ++ sym is i)) ∙ gone;
+    closes = closes;
+  }
+
   -- BEFORE AN ATTRIBUTE
 
   module _ (before : walk.phase ≡ phase.BeforeAttributeName) where
@@ -39,88 +56,45 @@ module _ (table : Entities) (names : Texts) (walk : TagWalk) (body : List Placed
     nothing = held_in table names walk body (p ∷ []) errors h phase.BeforeAttributeName before
 
     -- `>`
-    pub tag_ends : (new : TagWalk) → new.name ≡ walk.name → new.seen ≡ walk.seen → new.attrs ≡ walk.attrs → new.any ≡ walk.any → new.closing ≡ false → p.ch ≡ 62 → IsWholeTag table names new (body ++ p ∷ []) errors
-    tag_ends new named seen attrs any plain is = record {
-      name = h.name;
-      parts = h.parts;
-      close = p ∷ [];
-      body_is = body_more table names walk body (p ∷ []) errors h ∙ ap (λ (x : List Placed). h.name ++ (parts_text h.parts ++ (x ++ p ∷ []))) nothing.0;
-      first = h.first;
-      passes = h.passes;
-      name_is = ap string_bytes named ∙ h.name_is;
-      are_parts = λ end rest. subst (λ (x : List Placed). AreParts table end h.parts (x ++ (p ∷ rest))) nothing.0 (h.are_parts end rest);
-      errors_are = h.errors_are ∙ ap (λ (x : List ParseError). tag_errors h.name h.parts ++ x) nothing.1 ∙ append-nil (tag_errors h.name h.parts);
-      has_attributes = holds_same names walk new h.parts seen attrs any h.has_attributes;
-      ends = ap (λ (x : List Placed). begins ends_name (parts_text h.parts ++ (x ++ p ∷ []))) (sym nothing.0) ∙ gone;
-      closes = ap (λ (c : ℕ). c ∷ []) is ∙ ap tag_close (sym plain);
-    }
+    pub tag_ends : (new : TagWalk) → KeepsTag walk new → new.closing ≡ false → p.ch ≡ 62 → IsWholeTag table names new (body ++ p ∷ []) errors
+    tag_ends new keeps plain is = whole_tag new (p ∷ []) keeps (λ i. nothing.0 i ++ p ∷ []) nothing.1 gone (ap (λ (c : ℕ). c ∷ []) is ∙ ap tag_close (sym plain))
 
     -- `/`
-    pub solidus_follows : (new : TagWalk) → new.name ≡ walk.name → new.seen ≡ walk.seen → new.attrs ≡ walk.attrs → new.any ≡ walk.any → new.phase ≡ phase.SelfClosingStartTag → p.ch ≡ 47 → IsInTag table names new (body ++ p ∷ []) [] errors
-    solidus_follows new named seen attrs any then is =
-        goes_on table names walk body (p ∷ []) errors h new [] errors (sym (append-nil errors)) named seen attrs any (λ b e. subst (λ (x : TagState). IsPast x b) (sym then) e) gone
-        (subst (λ (x : TagState). HasPhase x table new h.parts (h.held ++ p ∷ []) (h.own ++ [])) (sym then) (p, is, ap (λ (x : List Placed). x ++ p ∷ []) nothing.0, append-nil h.own ∙ nothing.1))
+    pub solidus_follows : (new : TagWalk) → KeepsTag walk new → new.phase ≡ phase.SelfClosingStartTag → p.ch ≡ 47 → IsInTag table names new (body ++ p ∷ []) [] errors
+    solidus_follows new keeps then is =
+        goes_on table names walk body (p ∷ []) errors h new phase.SelfClosingStartTag [] errors keeps then (sym (append-nil errors)) (λ b e. e) gone (p, is, (λ i. nothing.0 i ++ p ∷ []), append-nil h.own ∙ nothing.1)
 
     -- an attribute
     pub attribute_begins : (new : TagWalk) (later : List ParseError) → BeginsAttribute walk p errors new later → ends_name p.ch ≡ false → IsInTag table names new (body ++ p ∷ []) [] later
     attribute_begins new later b stays =
         let e : List ParseError = error_if (is_equals p.ch) UnexpectedEqualsSignBeforeAttributeName p.at ++ name_errors_here p in
-        goes_on table names walk body (p ∷ []) errors h new e later b.later_is b.keeps.name_is b.keeps.seen_is b.keeps.attrs_are b.keeps.any_is (λ c x. subst (λ (y : TagState). IsPast y c) (sym b.phase_is) x) gone
-        (subst (λ (x : TagState). HasPhase x table new h.parts (h.held ++ p ∷ []) (h.own ++ e)) (sym b.phase_is)
-        (subst (λ (x : List Placed). InAttributeName new x (h.own ++ e)) (ap (λ (x : List Placed). x ++ p ∷ []) (sym nothing.0)) (record {
+        goes_on table names walk body (p ∷ []) errors h new phase.AttributeName e later b.keeps b.phase_is b.later_is (λ c x. x) gone
+        (subst (λ (x : List Placed). InAttributeName new (x ++ p ∷ []) (h.own ++ e)) (sym nothing.0) (record {
           has_name = record { first = ap not stays; runs = refl; is = b.attribute_is ∙ sym (append-nil _); at_is = sym b.at_is };
           no_value = b.value_is;
           own_is = ap (λ (x : List ParseError). x ++ e) nothing.1 ∙ ap (λ (x : List ParseError). error_if (is_equals p.ch) UnexpectedEqualsSignBeforeAttributeName p.at ++ x) (sym (append-nil (name_errors_here p)));
-        })))
+        }))
 
   -- AFTER `/`
 
   module _ (after : walk.phase ≡ phase.SelfClosingStartTag) where
     -- another character is read as before an attribute
-    pub solidus_ends : (new : TagWalk) (later : List ParseError) → new.name ≡ walk.name → new.seen ≡ walk.seen → new.attrs ≡ walk.attrs → new.any ≡ walk.any → new.phase ≡ phase.BeforeAttributeName → later ≡ errors ++ error UnexpectedSolidusInTag p.at ∷ []
-        → is_greater p.ch ≡ false → IsInTag table names new body (p ∷ []) later
-    solidus_ends new later named seen attrs any then later_is other =
+    pub solidus_ends : (new : TagWalk) (later : List ParseError) → KeepsTag walk new → new.phase ≡ phase.BeforeAttributeName → later ≡ errors ++ error UnexpectedSolidusInTag p.at ∷ [] → is_greater p.ch ≡ false → IsInTag table names new body (p ∷ []) later
+    solidus_ends new later keeps then later_is other =
         let e = held_in table names walk body (p ∷ []) errors h phase.SelfClosingStartTag after in
         let s : Placed = e.0 in
         let part : Part = record { text = s ∷ []; attribute = None; errors = error UnexpectedSolidusInTag p.at ∷ [] } in
         part_ends part (sym e.2) (λ end more. IsPart.solidus s e.1 other refl) names new (error UnexpectedSolidusInTag p.at ∷ []) later (ap (λ (x : List ParseError). x ++ error UnexpectedSolidusInTag p.at ∷ []) (sym e.3))
-        (later_is ∙ sym (append-nil (errors ++ error UnexpectedSolidusInTag p.at ∷ []))) named then (holds_plain names walk new h.parts part refl seen attrs any h.has_attributes) (past_is table names walk body (p ∷ []) errors h phase.SelfClosingStartTag after)
+        (later_is ∙ sym (append-nil (errors ++ error UnexpectedSolidusInTag p.at ∷ []))) keeps.name_is then (holds_plain names walk new h.parts part refl keeps h.has_attributes) (past_is table names walk body (p ∷ []) errors h phase.SelfClosingStartTag after)
 
-    pub closing_ends : (new : TagWalk) → new.name ≡ walk.name → new.seen ≡ walk.seen → new.attrs ≡ walk.attrs → new.any ≡ walk.any → new.closing ≡ true → p.ch ≡ 62 → IsWholeTag table names new (body ++ p ∷ []) errors
-    closing_ends new named seen attrs any closing is =
+    pub closing_ends : (new : TagWalk) → KeepsTag walk new → new.closing ≡ true → p.ch ≡ 62 → IsWholeTag table names new (body ++ p ∷ []) errors
+    closing_ends new keeps closing is =
         let e = held_in table names walk body (p ∷ []) errors h phase.SelfClosingStartTag after in
-        record {
-          name = h.name;
-          parts = h.parts;
-          close = h.held ++ p ∷ [];
-          body_is = body_more table names walk body (p ∷ []) errors h;
-          first = h.first;
-          passes = h.passes;
-          name_is = ap string_bytes named ∙ h.name_is;
-          are_parts = λ end rest. subst (AreParts table end h.parts) (sym (append_assoc h.held (p ∷ []) rest)) (h.are_parts end rest);
-          errors_are = h.errors_are ∙ ap (λ (x : List ParseError). tag_errors h.name h.parts ++ x) e.3 ∙ append-nil (tag_errors h.name h.parts);
-          has_attributes = holds_same names walk new h.parts seen attrs any h.has_attributes;
-          ends = past_is table names walk body (p ∷ []) errors h phase.SelfClosingStartTag after;
-          closes = ap (λ (x : List Placed). characters (x ++ p ∷ [])) e.2 ∙ ap (λ (c : ℕ). c ∷ p.ch ∷ []) e.1 ∙ ap (λ (c : ℕ). 47 ∷ c ∷ []) is ∙ ap tag_close (sym closing);
-        }
+        whole_tag new (e.0 ∷ p ∷ []) keeps (λ i. e.2 i ++ p ∷ []) e.3 (past_is table names walk body (p ∷ []) errors h phase.SelfClosingStartTag after) ((λ i. e.1 i ∷ is i ∷ []) ∙ ap tag_close (sym closing))
 
-  -- IN AN ATTRIBUTE'S NAME
-
-  module _ (in_name : walk.phase ≡ phase.AttributeName) where
-    abbrev named_here : InAttributeName walk h.held h.own
-    named_here = held_in table names walk body (p ∷ []) errors h phase.AttributeName in_name
-
-    -- it goes on
-    pub name_goes_on : (new : TagWalk) (later : List ParseError) → AddsToName walk p errors new later → ends_attribute_name p.ch ≡ false → IsInTag table names new (body ++ p ∷ []) [] later
-    name_goes_on new later a stays =
-        letters_follow table names walk body (p ∷ []) errors h in_name new later a.keeps a.phase_is a.at_is a.value_is
-        (a.attribute_is ∙ ap (λ (x : List ℕ). string_bytes walk.attribute ++ x) (sym (append-nil (encode_utf8 (to_ascii_lowercase (without_null p.ch))))))
-        (a.later_is ∙ ap (λ (x : List ParseError). errors ++ x) (sym (append-nil (name_errors_here p)))) (and_both _ true (ap not stays) refl)
-
-    -- it ends before `/` or `>`: an attribute without a value
-    pub bare_ends : (after : Texts) (new : TagWalk) (later : List ParseError) → EndsAttribute names after walk errors new later → ends_attribute_name p.ch ≡ true → is_space p.ch ≡ false → is_equals p.ch ≡ false → IsInTag table after new body (p ∷ []) later
-    bare_ends after new later ends stop no_space no_equals =
-        let n = named_here in
-        attribute_ends walk (keeps_self walk) refl refl h.held [] [] [] (append-nil h.held)
-        (λ end more. IsPart.bare h.held (record { first = n.has_name.first; runs = record { passes_none = n.has_name.runs; stops_after = stop } }) (ap (begins is_equals) (past-space [] p more refl no_space) ∙ no_equals) refl)
-        n.has_name n.no_value.empty [] errors (append-nil (attribute_name_errors h.held) ∙ sym n.own_is ∙ sym (append-nil h.own)) (sym (append-nil errors)) after new later ends (past_is table names walk body (p ∷ []) errors h phase.AttributeName in_name)
+  -- an attribute's name goes on
+  pub name_goes_on : walk.phase ≡ phase.AttributeName → (new : TagWalk) (later : List ParseError) → AddsToName walk p errors new later → ends_attribute_name p.ch ≡ false → IsInTag table names new (body ++ p ∷ []) [] later
+  name_goes_on in_name new later a stays =
+      letters_follow table names walk body (p ∷ []) errors h in_name new later a.keeps a.phase_is a.at_is a.value_is
+      (a.attribute_is ∙ ap (λ (x : List ℕ). string_bytes walk.attribute ++ x) (sym (append-nil (encode_utf8 (to_ascii_lowercase (without_null p.ch))))))
+      (a.later_is ∙ ap (λ (x : List ParseError). errors ++ x) (sym (append-nil (name_errors_here p)))) (and_both _ true (ap not stays) refl)

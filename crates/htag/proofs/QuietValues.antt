@@ -1,19 +1,18 @@
 -- Values that are read at once: characters that stand for themselves, and references without errors.
-use Rattle.htag.proofs.Vocabulary.{◌≡◌, ℕ, suc, ◌+◌, ◌-◌, ◌≤◌, ◌<◌, Bool, true, false, not, ◌&&◌, eqb, List, [], ◌∷◌, ◌++◌, length, take, drop, sym, refl, ap, ◌∙◌, subst, append_assoc, append-nil, arith, nat_tests, and_parts, None, encode_utf8_all, flat_map-append, list_all, prefix_len, slice_index, all_weaker, take-append-drop, length-take-le, take_all, ParseError, Placed, all, error_if, placed, all_placed, Entities, Piece, IsReference, IsRead, characters_of, errors_of, Reference, AreValue, IsValuePiece, pieces_text, plain_pieces, value_bytes, value_errors}
+use Rattle.htag.proofs.Vocabulary.{◌≡◌, ℕ, suc, ◌+◌, ◌-◌, ◌≤◌, ◌<◌, Bool, true, false, not, ◌&&◌, eqb, List, [], ◌∷◌, ◌++◌, length, take, drop, sym, refl, ap, ◌∙◌, subst, transport, append_assoc, append-nil, arith, nat_tests, and_parts, None, encode_utf8_all, flat_map-append, list_all, prefix_len, slice_index, all_weaker, take-append-drop, length-take-le, take_all, ParseError, Placed, all, error_if, placed, all_placed, Entities, Piece, IsReference, IsRead, characters_of, errors_of, Reference, AreValue, IsValuePiece, pieces_text, plain_pieces, value_bytes, value_errors}
 use Rattle.std.specs.Char.{is_ascii, len_utf8}
 use Rattle.std.specs.Str.{chars, IsUtf8}
 use Rattle.std.proofs.lemmas.Bool.{and_from}
 use Rattle.std.proofs.lemmas.List.{drop-drop, take_at, drop_at, length-append}
 use Rattle.std.proofs.lemmas.List.Folds.{list_all-append}
 use Rattle.std.proofs.lemmas.Str.{chars-nil, encodes-chars}
-use Rattle.charref.specs.declared.reference.Characters.{Characters}
 use Rattle.charref.specs.Reference.{ends_in_semicolon, is_kept_as_text, named, kept, unknown, decimal, hexadecimal, no_digits, alone}
 use Rattle.names.specs.declared.error.ErrorCode.TheVariants.{MissingSemicolonAfterCharacterReference}
 use Rattle.htext.specs.Run.{is_clean, is_quoted_byte, IsCut}
 use Rattle.htext.proofs.Clean.{clean_rest, front_of_test}
 use Rattle.htext.proofs.Runs.{take_more}
 use Rattle.htext.proofs.Wide.{cut_more, placed_cut, placed_more}
-use Rattle.htag.specs.AtOnce.{IsQuietFront, IsQuietReference, is_no_reference}
+use Rattle.htag.specs.AtOnce.{IsQuietFront, is_no_reference}
 use Rattle.htag.proofs.Ascii.{ascii_chars, ascii_cut, ascii_placed, ascii_taken}
 use Rattle.htag.proofs.InRun.{characters_placed}
 use Rattle.htag.proofs.Pieces.{alone_bytes, alone_errors, pieces_text-append, plain_text, value_bytes-append}
@@ -178,50 +177,41 @@ module _ (table : Entities) (run bytes : List ℕ) (u : IsUtf8 run) (run_is : ru
       let all : list_all is_ascii (38 ∷ own) ≡ true = both.0 in
       subst IsUtf8 rest_is (ascii_chars (38 ∷ own) (drop (k - found.left) bytes) all (subst IsUtf8 (run_is ∙ ap (λ (x : List ℕ). 38 ∷ x) (sym (take-append-drop (k - found.left) bytes))) u)).0
 
-  pub settled_is : IsQuietReference table run found.characters (1 + k - found.left)
-  settled_is = record {
-    own = own;
-    others = drop (k - found.left) bytes;
-    run_is = run_is ∙ ap (λ (x : List ℕ). 38 ∷ x) (sym (take-append-drop (k - found.left) bytes));
-    count_is = omega (arith, size, few);
-    ascii = both.0;
-    reads = λ at.
-        let after : List Placed = placed (at + 1 + k) (chars (drop k bytes)) in
-        let amp : Placed = record { ch = 38; at = at } in
-        let text : List Placed = placed (at + 1) (take k bytes) in
-        let n : ℕ = length text - found.left in
-        let n_is : n ≡ length (placed (at + 1) own) = omega (arith, length-placed (at + 1) (take k bytes), length-take-le k bytes within, length-placed (at + 1) own, size) in
-        let text_is : text ≡ placed (at + 1) own ++ placed (at + 1 + length own) left = ap (placed (at + 1)) shown ∙ ascii_placed (at + 1) own left both.0 in
-        let taken : take n text ≡ placed (at + 1) own = ap (take n) text_is ∙ take_at (placed (at + 1) own) (placed (at + 1 + length own) left) n (sym n_is) in
-        let dropped : drop n text ≡ placed (at + 1 + length own) left = ap (drop n) text_is ∙ drop_at (placed (at + 1) own) (placed (at + 1 + length own) left) n (sym n_is) in
-        let here : at + 1 + length own ≡ at + (1 + k - found.left) = omega (arith, size, few) in
-        let far : at + 1 + length own + length left ≡ at + 1 + k = omega (arith, size, few, ap length shown, length-append own left, length-take-le k bytes within) in
-        let then : drop n text ++ after ≡ placed (at + (1 + k - found.left)) (chars (drop (k - found.left) bytes)) =
-        ap (λ (x : List Placed). x ++ after) dropped ∙ ap (λ (m : ℕ). placed (at + 1 + length own) left ++ placed m (chars (drop k bytes))) (sym far) ∙ sym (ascii_placed (at + 1 + length own) left (chars (drop k bytes)) both.1)
-        ∙ ap (placed (at + 1 + length own)) (sym (ascii_chars left (drop k bytes) both.1 rest_utf8).1 ∙ ap chars (sym rest_is)) ∙ ap (λ (m : ℕ). placed m (chars (drop (k - found.left) bytes))) here in
-        let piece : List Placed → List ParseError → Piece = λ t e. record { text = amp ∷ t; gives = characters_of found.characters; errors = e } in
-        in_value table _ _
-        (subst (λ (t : List Placed). IsReference table false (placed (at + (1 + k - found.left)) (chars (drop (k - found.left) bytes))) (record { text = amp ∷ t; gives = characters_of found.characters; errors = [] })) taken
-        (subst (λ (e : List ParseError). IsReference table false (placed (at + (1 + k - found.left)) (chars (drop (k - found.left) bytes))) (record { text = amp ∷ take n text; gives = characters_of found.characters; errors = e })) (no_errors found missing fault no_run at after)
-        (subst (λ (r : List Placed). IsReference table false r (record { text = amp ∷ take n text; gives = characters_of found.characters; errors = errors_of found at after })) then ((read (at + 1) after).reads amp refl)))) refl;
-  }
+  is_settled : (at : ℕ) → IsReference table true (placed (at + (1 + k - found.left)) (chars (drop (k - found.left) bytes))) (record { text = record { ch = 38; at = at } ∷ placed (at + 1) own; gives = characters_of found.characters; errors = [] })
+  is_settled at =
+      let after : List Placed = placed (at + 1 + k) (chars (drop k bytes)) in
+      let amp : Placed = record { ch = 38; at = at } in
+      let text : List Placed = placed (at + 1) (take k bytes) in
+      let n : ℕ = length text - found.left in
+      let n_is : n ≡ length (placed (at + 1) own) = omega (arith, length-placed (at + 1) (take k bytes), length-take-le k bytes within, length-placed (at + 1) own, size) in
+      let text_is : text ≡ placed (at + 1) own ++ placed (at + 1 + length own) left = ap (placed (at + 1)) shown ∙ ascii_placed (at + 1) own left both.0 in
+      let taken : take n text ≡ placed (at + 1) own = ap (take n) text_is ∙ take_at (placed (at + 1) own) (placed (at + 1 + length own) left) n (sym n_is) in
+      let dropped : drop n text ≡ placed (at + 1 + length own) left = ap (drop n) text_is ∙ drop_at (placed (at + 1) own) (placed (at + 1 + length own) left) n (sym n_is) in
+      let here : at + 1 + length own ≡ at + (1 + k - found.left) = omega (arith, size, few) in
+      let far : at + 1 + length own + length left ≡ at + 1 + k = omega (arith, size, few, ap length shown, length-append own left, length-take-le k bytes within) in
+      let then : drop n text ++ after ≡ placed (at + (1 + k - found.left)) (chars (drop (k - found.left) bytes)) =
+      (λ i. dropped i ++ placed (sym far i) (chars (drop k bytes))) ∙ sym (ascii_placed (at + 1 + length own) left (chars (drop k bytes)) both.1) ∙ ap (placed (at + 1 + length own)) (sym (ascii_chars left (drop k bytes) both.1 rest_utf8).1) ∙ (λ i. placed (here i) (chars (sym rest_is i))) in
+      in_value table _ _ (transport (λ i. IsReference table false (then i) (record { text = amp ∷ taken i; gives = characters_of found.characters; errors = no_errors found missing fault no_run at after i })) ((read (at + 1) after).reads amp refl)) refl
 
-pub reference_front : (table : Entities) (run : List ℕ) (found : Characters) (count : ℕ) → IsUtf8 run → IsQuietReference table run found count → (old : List ℕ) → IsQuietFront table run count old (old ++ encode_utf8_all (characters_of found))
-reference_front table run found count u is old =
-    let long : length (38 ∷ is.own) ≡ count = omega (arith, is.count_is) in
-    let taken : take count run ≡ 38 ∷ is.own = ap (take count) is.run_is ∙ take_at (38 ∷ is.own) is.others count long in
-    let left : drop count run ≡ is.others = ap (drop count) is.run_is ∙ drop_at (38 ∷ is.own) is.others count long in
-    let within : count ≤ length run = omega (arith, long, ap length is.run_is, length-append (38 ∷ is.own) is.others) in
-    let ascii : list_all is_ascii (take count run) ≡ true = ap (list_all is_ascii) taken ∙ is.ascii in
-    record {
-      cut = ascii_cut count run within ascii u;
-      reads = λ at.
-          let piece : Piece = record { text = record { ch = 38; at = at } ∷ placed (at + 1) is.own; gives = characters_of found; errors = [] } in
-          record {
-            pieces = piece ∷ [];
-            text_is = ap (placed at) (ascii_taken count run within ascii ∙ taken) ∙ sym (append-nil piece.text);
-            are = λ more are rest. (IsValuePiece.reference (subst (λ (x : List Placed). IsReference table true x piece) (ap (λ (x : List ℕ). placed (at + count) (chars x)) (sym left) ∙ sym rest) (is.reads at)), are);
-            quiet = refl;
-            bytes = ap (λ (x : List ℕ). old ++ encode_utf8_all x) (sym (append-nil (characters_of found)));
-          };
-    }
+  pub reference_front : (old : List ℕ) → IsQuietFront table run (1 + k - found.left) old (old ++ encode_utf8_all (characters_of found.characters))
+  reference_front old =
+      let count : ℕ = 1 + k - found.left in
+      let rest : List ℕ = drop (k - found.left) bytes in
+      let whole : run ≡ (38 ∷ own) ++ rest = run_is ∙ (λ i. 38 ∷ sym (take-append-drop (k - found.left) bytes) i) in
+      let long : length (38 ∷ own) ≡ count = omega (arith, size, few) in
+      let taken : take count run ≡ 38 ∷ own = ap (take count) whole ∙ take_at (38 ∷ own) rest count long in
+      let left_is : drop count run ≡ rest = ap (drop count) whole ∙ drop_at (38 ∷ own) rest count long in
+      let within_run : count ≤ length run = omega (arith, long, ap length whole, length-append (38 ∷ own) rest) in
+      let ascii_run : list_all is_ascii (take count run) ≡ true = ap (list_all is_ascii) taken ∙ both.0 in
+      record {
+        cut = ascii_cut count run within_run ascii_run u;
+        reads = λ at.
+            let piece : Piece = record { text = record { ch = 38; at = at } ∷ placed (at + 1) own; gives = characters_of found.characters; errors = [] } in
+            record {
+              pieces = piece ∷ [];
+              text_is = ap (placed at) (ascii_taken count run within_run ascii_run ∙ taken) ∙ sym (append-nil piece.text);
+              are = λ more are is. (IsValuePiece.reference (subst (λ (x : List Placed). IsReference table true x piece) (ap (λ (x : List ℕ). placed (at + count) (chars x)) (sym left_is) ∙ sym is) (is_settled at)), are);
+              quiet = refl;
+              bytes = ap (λ (x : List ℕ). old ++ encode_utf8_all x) (sym (append-nil (characters_of found.characters)));
+            };
+      }

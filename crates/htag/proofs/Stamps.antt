@@ -1,6 +1,7 @@
 -- Stamps of the names that a tag has had.
 use Rattle.htag.proofs.Vocabulary.{◌≡◌, ℕ, zero, suc, ◌<◌, ◌≤◌, true, false, not, eqb, List, [], ◌∷◌, ◌++◌, length, take, get_or, sym, refl, ap, ◌∙◌, arith, take_all, nat_tests, Seen, has_number, HasSeen}
 use Rattle.std.proofs.Common.{replicate}
+use Rattle.std.proofs.lemmas.List.{get_or_past}
 use Rattle.std.specs.Prelude.{slice_set}
 use Rattle.htag.specs.Seen.{stamp}
 
@@ -26,11 +27,6 @@ stamped (x ∷ xs) zero tag h (suc m) = h (suc m)
 stamped (x ∷ xs) (suc n) tag h zero = h zero
 stamped (x ∷ xs) (suc n) tag h (suc m) = stamped xs n tag (λ k. h (suc k)) m
 
-past_all : (xs : List ℕ) (n : ℕ) → length xs ≤ n → get_or xs n 0 ≡ 0
-past_all [] n h = refl
-past_all (x ∷ xs) zero h = absurd (omega (arith, h))
-past_all (x ∷ xs) (suc n) h = past_all xs n (omega (arith, h))
-
 -- a name more
 pub marked : (old new : Seen) (n : ℕ) (numbers : List ℕ) → HasSeen old numbers → new.tag ≡ old.tag → stamp new n ≡ old.tag → ((m : ℕ) → (m ≡ n → ⊥) → stamp new m ≡ stamp old m) → HasSeen new (n ∷ numbers)
 marked old new n numbers h same here others = record { exact = λ m. grind (arith, nat_tests, h.exact m, others m, here, same) }
@@ -38,6 +34,6 @@ marked old new n numbers h same here others = record { exact = λ m. grind (arit
 -- a name past all that have a stamp
 pub no_stamp : (seen : Seen) (n : ℕ) (numbers : List ℕ) → 0 < seen.tag → HasSeen seen numbers → length seen.stamps.items ≤ n → true ≡ not (has_number n numbers)
 no_stamp seen n numbers begun h past =
-    let none : stamp seen n ≡ 0 = past_all seen.stamps.items n past in
+    let none : stamp seen n ≡ 0 = get_or_past seen.stamps.items n 0 past in
     let other : eqb (stamp seen n) seen.tag ≡ false = grind (arith, nat_tests) in
     ap not (sym other ∙ h.exact n)

@@ -5,7 +5,7 @@ use Rattle.htext.specs.Run.{is_clean, is_quoted_byte, IsCut}
 use Rattle.htext.proofs.Clean.{front_of_test}
 use Rattle.htag.specs.AtOnce.{is_no_reference}
 use Rattle.htag.specs.Run.{IsValueRun, next_at}
-use Rattle.htag.specs.declared.pending.Pending.TheVariants as reading
+use Rattle.htag.specs.declared.piece.Pending.TheVariants as reading
 use Rattle.htag.proofs.Even.{not_odd}
 use Rattle.htag.proofs.Going.{quoted_goes_on, unquoted_goes_on}
 use Rattle.htag.proofs.InRun.{next_then}

@@ -1,5 +1,6 @@
 -- What follows an attribute's name: `=` and a value.
-use Rattle.htag.proofs.Vocabulary.{◌≡◌, ℕ, Bool, true, false, not, ◌||◌, ◌&&◌, eqb, List, [], ◌∷◌, ◌++◌, sym, refl, ap, ◌∙◌, subst, append_assoc, append-nil, MissingWhitespaceBetweenAttributes, ParseError, Placed, Texts, begins, stops, all, is_space, is_equals, is_greater, is_quote, error, error_if, and_parts, and_both, Entities, TagState, TagWalk, Pending, ValueWalk, pieces_text, value_bytes, HasHeld, IsInValue, EndsValue, pieces_errors, IsPart, ends_name, ends_attribute_name, ends_unquoted, attribute_name_errors, value_errors, unquoted_errors, NoValue, HasPhase, IsPast, IsInTag, KeepsTag, EndsAttribute, InAttributeName, arith, nat_tests}
+use Rattle.htag.proofs.Vocabulary.{◌≡◌, ℕ, Bool, true, false, not, ◌||◌, ◌&&◌, eqb, List, [], ◌∷◌, ◌++◌, sym, refl, ap, ◌∙◌, subst, append_assoc, append-nil, MissingWhitespaceBetweenAttributes, ParseError, Placed, Texts, begins, stops, all, is_space, is_equals, is_greater, is_quote, error, error_if, and_parts, and_both, Entities, TagState, TagWalk, Pending, ValueWalk, pieces_text, value_bytes, HasHeld, IsInValue, EndsValue, pieces_errors, IsPart, ends_name, ends_attribute_name, ends_unquoted, attribute_name_errors, value_errors, unquoted_errors, NoValue, HasName, HasPhase, IsPast, IsInTag, KeepsTag, EndsAttribute, arith, nat_tests}
+use Rattle.std.proofs.Common.{cond}
 use Rattle.names.specs.declared.error.ErrorCode.TheVariants.{MissingAttributeValue}
 use Rattle.htag.specs.declared.tag_state.TagState.TheVariants as phase
 use Rattle.htag.specs.ValueWalk.{TakesInValue}
@@ -7,8 +8,9 @@ use Rattle.htag.specs.TagWalk.{PastAttributeName}
 use Rattle.htag.proofs.InValue.{looks_ahead}
 use Rattle.htag.specs.Tag.{is_sign}
 use Rattle.htag.proofs.Parts.{begins-more, all-snoc}
-use Rattle.htag.proofs.Going.{Past, past_is, held_in, goes_on, name_stays, quoted_goes_on as value_goes_on, unquoted_goes_on as word_goes_on}
+use Rattle.htag.proofs.Going.{Past, past_is, held_in, goes_on, name_stays}
 use Rattle.htag.proofs.Phases.{keeps_self, attribute_ends}
+use Rattle.htag.proofs.Ahead.{name_read}
 
 -- `=` with white space round it, by its first character
 space_first : (x : Placed) (xs : List Placed) → is_space x.ch ≡ true → is_sign (x ∷ xs) ≡ is_sign xs
@@ -33,6 +35,14 @@ pub sign_stops : (sign : List Placed) → is_sign sign ≡ true → stops ends_a
 sign_stops [] h = refl
 sign_stops (x ∷ xs) h = grind (arith, nat_tests)
 
+-- white space and then what ends an attribute's name
+pub space_ends : (c : ℕ) → is_space c ≡ true → ends_attribute_name c ≡ true
+space_ends c h = grind (arith, h, nat_tests)
+
+spaces_begin : (space : List Placed) (p : Placed) → all is_space space ≡ true → ends_attribute_name p.ch ≡ true → begins ends_attribute_name (space ++ p ∷ []) ≡ true
+spaces_begin [] p h ends = ends
+spaces_begin (x ∷ xs) p h ends = space_ends x.ch (and_parts (is_space x.ch) (all is_space xs) h).0
+
 -- nothing is read of a value yet
 begun_value : (table : Entities) (quoted : Bool) (value : ValueWalk) → NoValue value → IsInValue table quoted value [] [] []
 begun_value table quoted value n = record {
@@ -49,54 +59,41 @@ begun_value table quoted value n = record {
 
 module _ (table : Entities) (names : Texts) (walk : TagWalk) (body : List Placed) (p : Placed) (errors : List ParseError) (h : IsInTag table names walk body (p ∷ []) errors) where
   -- the same attribute in another phase
-  module _ (new : TagWalk) (named : new.name ≡ walk.name) (seen : new.seen ≡ walk.seen) (attrs : new.attrs ≡ walk.attrs) (any : new.any ≡ walk.any) (attribute : new.attribute ≡ walk.attribute) (at : new.at ≡ walk.at) (value : new.value ≡ walk.value) where
+  module _ (new : TagWalk) (keeps : KeepsTag walk new) (attribute : new.attribute ≡ walk.attribute) (at : new.at ≡ walk.at) (value : new.value ≡ walk.value) where
     moves : (ph : TagState) → new.phase ≡ ph → ((b : Bool) → b ≡ true → IsPast ph b) → Past table names walk body (p ∷ []) errors h ≡ true → HasPhase ph table new h.parts (h.held ++ p ∷ []) h.own → IsInTag table names new (body ++ p ∷ []) [] errors
-    moves ph then gone past_it has =
-        goes_on table names walk body (p ∷ []) errors h new [] errors (sym (append-nil errors)) named seen attrs any (λ b e. subst (λ (x : TagState). IsPast x b) (sym then) (gone b e)) past_it
-        (subst (λ (x : List ParseError). HasPhase new.phase table new h.parts (h.held ++ p ∷ []) x) (sym (append-nil h.own)) (subst (λ (x : TagState). HasPhase x table new h.parts (h.held ++ p ∷ []) h.own) (sym then) has))
+    moves ph then past_it gone has =
+        goes_on table names walk body (p ∷ []) errors h new ph [] errors keeps then (sym (append-nil errors)) past_it gone (subst (HasPhase ph table new h.parts (h.held ++ p ∷ [])) (sym (append-nil h.own)) has)
 
-    -- the character is the first after a name, or one more
-    past_first : (test : List Placed → Bool) → InAttributeName walk h.held h.own → test (p ∷ []) ≡ true → ends_attribute_name p.ch ≡ true → PastAttributeName test new (h.held ++ p ∷ []) h.own
-    past_first test n is stop =
-        record { name = h.held; sign = p ∷ []; held_is = refl; has_name = name_stays walk new h.held attribute at n.has_name; no_value = subst NoValue (sym value) n.no_value; is_sign = is; begun = stop; own_is = n.own_is }
-
-    past_more : (was test : List Placed → Bool) (n : PastAttributeName was walk h.held h.own) → test (n.sign ++ p ∷ []) ≡ true → PastAttributeName test new (h.held ++ p ∷ []) h.own
-    past_more was test n is = record {
-      name = n.name;
-      sign = n.sign ++ p ∷ [];
-      held_is = ap (λ (x : List Placed). x ++ p ∷ []) n.held_is ∙ append_assoc n.name n.sign (p ∷ []);
-      has_name = name_stays walk new n.name attribute at n.has_name;
-      no_value = subst NoValue (sym value) n.no_value;
+    -- the character is one more after a name
+    past_name : (test : List Placed → Bool) (name sign : List Placed) → h.held ≡ name ++ sign → HasName walk name → NoValue walk.value → h.own ≡ attribute_name_errors name → test (sign ++ p ∷ []) ≡ true → begins ends_attribute_name (sign ++ p ∷ []) ≡ true → PastAttributeName test new (h.held ++ p ∷ []) h.own
+    past_name test name sign held has none own is stop = record {
+      name = name;
+      sign = sign ++ p ∷ [];
+      held_is = ap (λ (x : List Placed). x ++ p ∷ []) held ∙ append_assoc name sign (p ∷ []);
+      has_name = name_stays walk new name attribute at has;
+      no_value = subst NoValue (sym value) none;
       is_sign = is;
-      begun = begins-more ends_attribute_name n.sign (p ∷ []) n.begun;
-      own_is = n.own_is;
+      begun = stop;
+      own_is = own;
     }
 
-    pub space_after_name : walk.phase ≡ phase.AttributeName → new.phase ≡ phase.AfterAttributeName → is_space p.ch ≡ true → ends_attribute_name p.ch ≡ true → IsInTag table names new (body ++ p ∷ []) [] errors
-    space_after_name before then is stop =
-        moves phase.AfterAttributeName then (λ b e. e) (past_is table names walk body (p ∷ []) errors h phase.AttributeName before)
-        (past_first (all is_space) (held_in table names walk body (p ∷ []) errors h phase.AttributeName before) (and_both (is_space p.ch) true is refl) stop)
+    -- white space after a name, or `=`
+    pub space_follows : (spaced : Bool) → walk.phase ≡ cond spaced phase.AfterAttributeName phase.AttributeName → new.phase ≡ phase.AfterAttributeName → is_space p.ch ≡ true → IsInTag table names new (body ++ p ∷ []) [] errors
+    space_follows spaced before then is =
+        let (n, gone) = name_read table names walk body (p ∷ []) errors h spaced before in
+        moves phase.AfterAttributeName then (λ b e. e) gone (past_name (all is_space) n.name n.spaces n.held_is n.has_name n.no_value n.own_is (all-snoc is_space n.spaces p n.are_spaces is) (spaces_begin n.spaces p n.are_spaces (space_ends p.ch is)))
 
-    pub equals_after_name : walk.phase ≡ phase.AttributeName → new.phase ≡ phase.BeforeAttributeValue → p.ch ≡ 61 → IsInTag table names new (body ++ p ∷ []) [] errors
-    equals_after_name before then is =
-        moves phase.BeforeAttributeValue then (λ b e. e) (past_is table names walk body (p ∷ []) errors h phase.AttributeName before)
-        (past_first is_sign (held_in table names walk body (p ∷ []) errors h phase.AttributeName before) (ap (λ (c : ℕ). is_sign (record { ch = c; at = p.at } ∷ [])) is) (ap ends_attribute_name is))
+    pub equals_follows : (spaced : Bool) → walk.phase ≡ cond spaced phase.AfterAttributeName phase.AttributeName → new.phase ≡ phase.BeforeAttributeValue → p.ch ≡ 61 → IsInTag table names new (body ++ p ∷ []) [] errors
+    equals_follows spaced before then is =
+        let (n, gone) = name_read table names walk body (p ∷ []) errors h spaced before in
+        moves phase.BeforeAttributeValue then (λ b e. e) gone (past_name is_sign n.name n.spaces n.held_is n.has_name n.no_value n.own_is (spaces_sign n.spaces p n.are_spaces is) (spaces_begin n.spaces p n.are_spaces (ap ends_attribute_name is)))
 
-    -- more white space, after a name and after `=`
-    pub space_again : walk.phase ≡ phase.AfterAttributeName → new.phase ≡ phase.AfterAttributeName → is_space p.ch ≡ true → IsInTag table names new (body ++ p ∷ []) [] errors
-    space_again before then is =
-        let n = held_in table names walk body (p ∷ []) errors h phase.AfterAttributeName before in
-        moves phase.AfterAttributeName then (λ b e. e) (past_is table names walk body (p ∷ []) errors h phase.AfterAttributeName before) (past_more _ (all is_space) n (all-snoc is_space n.sign p n.is_sign is))
-
-    pub equals_after_space : walk.phase ≡ phase.AfterAttributeName → new.phase ≡ phase.BeforeAttributeValue → p.ch ≡ 61 → IsInTag table names new (body ++ p ∷ []) [] errors
-    equals_after_space before then is =
-        let n = held_in table names walk body (p ∷ []) errors h phase.AfterAttributeName before in
-        moves phase.BeforeAttributeValue then (λ b e. e) (past_is table names walk body (p ∷ []) errors h phase.AfterAttributeName before) (past_more _ is_sign n (spaces_sign n.sign p n.is_sign is))
-
+    -- white space after `=`
     pub space_after_equals : walk.phase ≡ phase.BeforeAttributeValue → new.phase ≡ phase.BeforeAttributeValue → is_space p.ch ≡ true → IsInTag table names new (body ++ p ∷ []) [] errors
     space_after_equals before then is =
         let n = held_in table names walk body (p ∷ []) errors h phase.BeforeAttributeValue before in
-        moves phase.BeforeAttributeValue then (λ b e. e) (past_is table names walk body (p ∷ []) errors h phase.BeforeAttributeValue before) (past_more _ is_sign n (sign_more n.sign p n.is_sign is))
+        moves phase.BeforeAttributeValue then (λ b e. e) (past_is table names walk body (p ∷ []) errors h phase.BeforeAttributeValue before)
+        (past_name is_sign n.name n.sign n.held_is n.has_name n.no_value n.own_is (sign_more n.sign p n.is_sign is) (begins-more ends_attribute_name n.sign (p ∷ []) n.begun))
 
     -- a quote
     pub quote_follows : walk.phase ≡ phase.BeforeAttributeValue → new.phase ≡ phase.AttributeValueQuoted p.ch → is_quote p.ch ≡ true → IsInTag table names new (body ++ p ∷ []) [] errors
@@ -123,8 +120,7 @@ module _ (table : Entities) (names : Texts) (walk : TagWalk) (body : List Placed
       → walk.phase ≡ phase.AttributeValueQuoted mark → new.phase ≡ phase.AfterAttributeValueQuoted → p.ch ≡ mark → IsInTag table names new (body ++ p ∷ []) [] later
   quote_closes mark new later keeps attribute at v before next is =
       let q = held_in table names walk body (p ∷ []) errors h (phase.AttributeValueQuoted mark) before in
-      goes_on table names walk body (p ∷ []) errors h new v.more later v.later_is keeps.name_is keeps.seen_is keeps.attrs_are keeps.any_is (λ b e. subst (λ (x : TagState). IsPast x b) (sym next) e) (past_is table names walk body (p ∷ []) errors h (phase.AttributeValueQuoted mark) before)
-      (subst (λ (x : TagState). HasPhase x table new h.parts (h.held ++ p ∷ []) (h.own ++ v.more)) (sym next) (record {
+      goes_on table names walk body (p ∷ []) errors h new phase.AfterAttributeValueQuoted v.more later keeps next v.later_is (λ b e. e) (past_is table names walk body (p ∷ []) errors h (phase.AttributeValueQuoted mark) before) (record {
         mark = mark;
         name = q.name;
         sign = q.sign;
@@ -141,13 +137,7 @@ module _ (table : Entities) (names : Texts) (walk : TagWalk) (body : List Placed
         value = v.ends table true q.text q.raised q.value;
         closes = ap (λ (c : ℕ). c ∷ []) is;
         own_is = ap (λ (x : List ParseError). x ++ v.more) q.own_is ∙ append_assoc (attribute_name_errors q.name) q.raised v.more;
-      }))
-
-  -- a value goes on
-  pub quoted_goes_on : (mark : ℕ) (new : TagWalk) (later : List ParseError) → KeepsTag walk new → new.attribute ≡ walk.attribute → new.at ≡ walk.at → TakesInValue table true walk.value p errors new.value later
-      → walk.phase ≡ phase.AttributeValueQuoted mark → new.phase ≡ walk.phase → eqb p.ch mark ≡ false → IsInTag table names new (body ++ p ∷ []) [] later
-  quoted_goes_on mark new later keeps attribute at v before same other =
-      value_goes_on table names walk body (p ∷ []) errors h new v.more later keeps attribute at same v.later_is mark before v.takes (and_both _ true (ap not other) refl)
+      })
 
   -- an attribute in quotes has ended
   pub quoted_ends : (mid : List ParseError) (after : Texts) (new : TagWalk) (later : List ParseError) → walk.phase ≡ phase.AfterAttributeValueQuoted → mid ≡ errors ++ error_if (not (ends_name p.ch)) MissingWhitespaceBetweenAttributes p.at
@@ -179,8 +169,7 @@ module _ (table : Entities) (names : Texts) (walk : TagWalk) (body : List Placed
       → walk.phase ≡ phase.BeforeAttributeValue → new.phase ≡ phase.AttributeValueUnquoted → not (ends_unquoted p.ch || is_quote p.ch) ≡ true → not (ends_unquoted p.ch) ≡ true → IsInTag table names new (body ++ p ∷ []) [] later
   unquoted_begins new later keeps attribute at v before next first stays =
       let n = held_in table names walk body (p ∷ []) errors h phase.BeforeAttributeValue before in
-      goes_on table names walk body (p ∷ []) errors h new v.more later v.later_is keeps.name_is keeps.seen_is keeps.attrs_are keeps.any_is (λ b x. subst (λ (y : TagState). IsPast y b) (sym next) x) (past_is table names walk body (p ∷ []) errors h phase.BeforeAttributeValue before)
-      (subst (λ (x : TagState). HasPhase x table new h.parts (h.held ++ p ∷ []) (h.own ++ v.more)) (sym next) (record {
+      goes_on table names walk body (p ∷ []) errors h new phase.AttributeValueUnquoted v.more later keeps next v.later_is (λ b x. x) (past_is table names walk body (p ∷ []) errors h phase.BeforeAttributeValue before) (record {
         name = n.name;
         sign = n.sign;
         text = p ∷ [];
@@ -192,13 +181,7 @@ module _ (table : Entities) (names : Texts) (walk : TagWalk) (body : List Placed
         inside = and_both (not (ends_unquoted p.ch)) true stays refl;
         value = v.takes [] [] (looks_ahead table false walk.value [] (p ∷ []) [] (begun_value table false walk.value n.no_value));
         own_is = ap (λ (x : List ParseError). x ++ v.more) n.own_is;
-      }))
-
-  -- it goes on
-  pub unquoted_goes_on : (new : TagWalk) (later : List ParseError) → KeepsTag walk new → new.attribute ≡ walk.attribute → new.at ≡ walk.at → TakesInValue table false walk.value p errors new.value later
-      → walk.phase ≡ phase.AttributeValueUnquoted → new.phase ≡ walk.phase → not (ends_unquoted p.ch) ≡ true → IsInTag table names new (body ++ p ∷ []) [] later
-  unquoted_goes_on new later keeps attribute at v before same stays =
-      word_goes_on table names walk body (p ∷ []) errors h new v.more later keeps attribute at same v.later_is before v.takes (and_both _ true stays refl)
+      })
 
   -- it ends
   pub unquoted_ends : (mid_walk : TagWalk) (mid : List ParseError) (after : Texts) (new : TagWalk) (later : List ParseError) → KeepsTag walk mid_walk → mid_walk.attribute ≡ walk.attribute → mid_walk.at ≡ walk.at

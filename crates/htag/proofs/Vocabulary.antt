@@ -13,10 +13,10 @@ pub use Rattle.htag.specs.Tag.{is_odd, AreParts, parts_text, tag_errors, ends_na
 pub use Rattle.htag.specs.TagWalk.{NoValue, HasName, HasPhase, IsPast, IsInTag, HasAttributes, names_after, NumbersMean, InAttributeName, IsWholeTag, WholeOrNot}
 pub use Rattle.htag.specs.Value.{IsValuePiece, AreValue, pieces_text, plain_piece, value_bytes}
 pub use Rattle.htag.specs.ValueWalk.{BeginsPiece, pieces_errors, plain_pieces, IsInValue, reference_errors, HasHeld, EndsValue}
-pub use Rattle.htag.specs.declared.pending.Pending.{Pending}
+pub use Rattle.htag.specs.declared.piece.Pending.{Pending}
 pub use Rattle.htag.specs.declared.seen.Seen.{Seen}
 pub use Rattle.htag.specs.declared.tag_state.TagState.{TagState}
-pub use Rattle.htag.specs.declared.value.ValueWalk.{ValueWalk}
+pub use Rattle.htag.specs.declared.piece.ValueWalk.{ValueWalk}
 pub use Rattle.htag.specs.declared.walk.TagWalk.{TagWalk}
 pub use Rattle.htext.proofs.Runs.{all_placed}
 pub use Rattle.htext.specs.Run.{is_plain_byte, is_unquoted_byte, is_word_byte}
@@ -30,6 +30,7 @@ pub use Rattle.names.specs.declared.error.ErrorCode.TheVariants.{UnexpectedChara
 pub use Rattle.names.specs.declared.error.ParseError.{ParseError}
 pub use Rattle.names.specs.declared.placed.Placed.{Placed}
 pub use Rattle.std.proofs.Common.{◌≡◌, ℕ, Bool, true, false, not, ◌&&◌, ◌||◌, eqb, List, [], ◌∷◌, ◌++◌, sym, refl, ap, ◌∙◌, subst, append_assoc, append-nil, arith, drop, zero, suc, ◌-◌, ◌≤◌, true≢false, length, take, map, slice_get, Option, Some, None, bytes_eq, is_some, Vec, Global, ◌+◌, ◌<◌, get_or}
+pub use Rattle.std.proofs.Math.Path.{transport}
 pub use Rattle.std.proofs.lemmas.Bool.{eqb-true}
 pub use Rattle.std.proofs.lemmas.Bool.Decides.{nat_tests}
 pub use Rattle.std.proofs.lemmas.Grind.{flat_map-append}

@@ -1,5 +1,5 @@
 -- An attribute that stands whole in a run.
-use Rattle.htag.proofs.Vocabulary.{◌≡◌, ◌≤◌, ◌<◌, ℕ, ◌+◌, ◌-◌, Bool, true, false, not, ◌||◌, eqb, List, [], ◌∷◌, ◌++◌, length, take, drop, sym, refl, ap, ◌∙◌, subst, append_assoc, append-nil, arith, nat_tests, and_parts, Some, get_or, length-take-le, take-append-drop, take_all, flat_map, list_all, len_utf8, ParseError, Placed, MissingWhitespaceBetweenAttributes, UnexpectedEqualsSignBeforeAttributeName, Texts, all, begins, stops, characters, error_if, is_equals, is_greater, is_quote, is_space, name_bytes, past, place, placed, all_weaker, all_placed, Entities, Piece, TagWalk, AreValue, pieces_text, value_bytes, IsInTag, is_unquoted_byte, is_word_byte, Attribute, IsPart, Part, attribute_name_errors, attribute_part, ends_attribute_name, ends_name, ends_unquoted, name_errors_here, names_after, repeated, unquoted_errors, value_errors}
+use Rattle.htag.proofs.Vocabulary.{◌≡◌, ◌≤◌, ◌<◌, ℕ, ◌+◌, ◌-◌, Bool, true, false, not, ◌||◌, eqb, List, [], ◌∷◌, ◌++◌, length, take, drop, sym, refl, ap, ◌∙◌, subst, transport, append_assoc, append-nil, arith, nat_tests, and_parts, Some, get_or, length-take-le, take-append-drop, take_all, flat_map, list_all, len_utf8, ParseError, Placed, MissingWhitespaceBetweenAttributes, UnexpectedEqualsSignBeforeAttributeName, Texts, all, begins, stops, characters, error_if, is_equals, is_greater, is_quote, is_space, past, place, placed, all_weaker, all_placed, Entities, Piece, TagWalk, AreValue, pieces_text, value_bytes, IsInTag, is_unquoted_byte, is_word_byte, Attribute, IsPart, Part, attribute_name_errors, attribute_part, ends_attribute_name, ends_name, ends_unquoted, name_errors_here, names_after, repeated, unquoted_errors, value_errors}
 use Rattle.std.proofs.Math.Seq.{get_or-append_seam, drop-length}
 use Rattle.std.proofs.lemmas.Bool.{and_from}
 use Rattle.std.proofs.lemmas.List.{length-append, take_at, drop_at, drop-drop}
@@ -25,6 +25,7 @@ use Rattle.htag.proofs.Going.{held_in, past_is, body_then, part_read}
 use Rattle.htag.proofs.InRun.{next_then, word_ascii, word_bytes, word_errors, word_in_attribute, word_in_name, word_no_equals}
 use Rattle.htag.proofs.Parts.{holds_same, past-space}
 use Rattle.htag.proofs.QuietValues.{all_chars}
+use Rattle.htag.proofs.Values.{space_ends}
 
 -- The front of this text is a part of a tag with this attribute and without errors, where this character comes next, and after it is white space.
 record HasFront (table : Entities) (attribute : Attribute) (first text : List Placed) (next : ℕ) : Type 0 where
@@ -51,9 +52,6 @@ none_follows spaces c (p ∷ ps) are other is =
 
 ends_attribute : (c : ℕ) → (eqb c 47 || is_greater c) ≡ true → (ends_attribute_name c ≡ true) × (not (is_space c || is_equals c) ≡ true)
 ends_attribute c h = (grind (arith, h, nat_tests), grind (arith, h, nat_tests))
-
-space_ends : (c : ℕ) → is_space c ≡ true → ends_attribute_name c ≡ true
-space_ends c h = grind (arith, h, nat_tests)
 
 unquoted_begins : (c : ℕ) → is_unquoted_byte c ≡ true → not (ends_unquoted c || is_quote c) ≡ true
 unquoted_begins c h = grind (arith, h, nat_tests)
@@ -234,8 +232,8 @@ module _ (run : List ℕ) (found : PlainAttribute) (found_is : IsPlainAttribute 
     close = placed (at + length name + length before + length value) after
 
     front_placed : placed at (chars (take end run)) ≡ placed at name ++ (placed after_name before ++ (text ++ close))
-    front_placed = ap (placed at) taken_chars ∙ ascii_placed at name (before ++ (chars value ++ after)) name_ascii ∙ ap (λ (x : List Placed). placed at name ++ x) (ascii_placed after_name before (chars value ++ after) outside.0
-        ∙ ap (λ (x : List Placed). placed after_name before ++ x) (placed_text in_value (chars value) after ∙ ap (λ (n : ℕ). text ++ placed (in_value + n) after) (ap length (encodes-chars value value_utf8))))
+    front_placed = ap (placed at) taken_chars ∙ ascii_placed at name (before ++ (chars value ++ after)) name_ascii ∙ (λ i. placed at name ++ ascii_placed after_name before (chars value ++ after) outside.0 i)
+        ∙ (λ i. placed at name ++ (placed after_name before ++ placed_text in_value (chars value) after i)) ∙ (λ i. placed at name ++ (placed after_name before ++ (text ++ placed (in_value + length (encodes-chars value value_utf8 i)) after)))
 
     next_is : next_at at run end ≡ record { ch = next; at = at + end } ∷ []
     next_is =
@@ -247,27 +245,19 @@ module _ (run : List ℕ) (found : PlainAttribute) (found_is : IsPlainAttribute 
     name_some : 0 < length name
     name_some = omega (arith, found_is.some, length-take-le found.name run found_is.within)
 
-    name_quiet : attribute_name_errors (placed at name) ≡ []
-    name_quiet = by name found_is.words where
-      by : (xs : List ℕ) → list_all is_word_byte xs ≡ true → attribute_name_errors (placed at xs) ≡ []
-      by [] words = refl
-      by (x ∷ xs) words =
-          ap (λ (b : Bool). error_if b UnexpectedEqualsSignBeforeAttributeName at ++ flat_map name_errors_here (placed at (x ∷ xs))) (word_no_equals x (and_parts (is_word_byte x) (list_all is_word_byte xs) words).0) ∙ word_errors at (x ∷ xs) words
-
-    name_rest : all (λ c. not (ends_attribute_name c)) (drop 1 (placed at name)) ≡ true
-    name_rest = by name found_is.words where
-      by : (xs : List ℕ) → list_all is_word_byte xs ≡ true → all (λ c. not (ends_attribute_name c)) (drop 1 (placed at xs)) ≡ true
-      by [] words = refl
-      by (x ∷ xs) words = all_placed (λ c. not (ends_attribute_name c)) (at + len_utf8 x) xs (all_weaker is_word_byte (λ c. not (ends_attribute_name c)) word_in_attribute xs (and_parts (is_word_byte x) (list_all is_word_byte xs) words).1)
-
-    name_place : place 0 (placed at name) ≡ at
-    name_place = by name name_some where
-      by : (xs : List ℕ) → 0 < length xs → place 0 (placed at xs) ≡ at
-      by [] e = absurd (omega (arith, e))
-      by (x ∷ xs) e = refl
+    named : (attribute_name_errors (placed at name) ≡ []) × (all (λ c. not (ends_attribute_name c)) (drop 1 (placed at name)) ≡ true) × (place 0 (placed at name) ≡ at)
+    named = by name name_some found_is.words where
+      by : (xs : List ℕ) → 0 < length xs → list_all is_word_byte xs ≡ true → (attribute_name_errors (placed at xs) ≡ []) × (all (λ c. not (ends_attribute_name c)) (drop 1 (placed at xs)) ≡ true) × (place 0 (placed at xs) ≡ at)
+      by [] some words = absurd (omega (arith, some))
+      by (x ∷ xs) some words =
+          let k = and_parts (is_word_byte x) (list_all is_word_byte xs) words in (
+            ap (λ (b : Bool). error_if b UnexpectedEqualsSignBeforeAttributeName at ++ flat_map name_errors_here (placed at (x ∷ xs))) (word_no_equals x k.0) ∙ word_errors at (x ∷ xs) words,
+            all_placed (λ c. not (ends_attribute_name c)) (at + len_utf8 x) xs (all_weaker is_word_byte (λ c. not (ends_attribute_name c)) word_in_attribute xs k.1),
+            refl,
+          )
 
     is_name : (rest : List Placed) → stops ends_attribute_name rest ≡ true → IsAttributeName (placed at name) rest
-    is_name rest stop = record { first = first_passes is_word_byte (λ c. not (ends_name c)) word_in_name at name name_some found_is.words; runs = record { passes_none = name_rest; stops_after = stop } }
+    is_name rest stop = record { first = first_passes is_word_byte (λ c. not (ends_name c)) word_in_name at name name_some found_is.words; runs = record { passes_none = named.1; stops_after = stop } }
 
     -- THE PART, with this value
 
@@ -296,18 +286,14 @@ module _ (run : List ℕ) (found : PlainAttribute) (found_is : IsPlainAttribute 
       -- by what follows the name
       part_is : (own others : List Placed) (given : List ℕ) (errors : List ParseError) → own ≡ placed at name ++ others → bytes ≡ given → errors ≡ [] → record { text = own; attribute = Some attribute; errors = [] } ≡ attribute_part (placed at name) others given errors
       part_is own others given errors own_is same quiet_too =
-          ap (λ (x : List Placed). record { text = x; attribute = Some attribute; errors = [] }) own_is
-          ∙ ap (λ (x : List ℕ). record { text = placed at name ++ others; attribute = Some (record { name = x; value = bytes; at = at }); errors = [] }) (sym (word_bytes at name found_is.words))
-          ∙ ap (λ (x : List ℕ). record { text = placed at name ++ others; attribute = Some (record { name = name_bytes (placed at name); value = x; at = at }); errors = [] }) same
-          ∙ ap (λ (n : ℕ). record { text = placed at name ++ others; attribute = Some (record { name = name_bytes (placed at name); value = given; at = n }); errors = [] }) (sym name_place)
-          ∙ ap (λ (x : List ParseError). record { text = placed at name ++ others; attribute = Some (record { name = name_bytes (placed at name); value = given; at = place 0 (placed at name) }); errors = x })
-          (sym (ap (λ (x : List ParseError). x ++ errors) name_quiet ∙ quiet_too))
+          let none_too : [] ≡ attribute_name_errors (placed at name) ++ errors = λ i. sym named.0 i ++ sym quiet_too i in
+          λ i. record { text = own_is i; attribute = Some (record { name = sym (word_bytes at name found_is.words) i; value = same i; at = sym named.2 i }); errors = none_too i }
 
       whole_is : (others : List Placed) → placed after_name before ++ (text ++ close) ≡ others → placed at (chars (take end run)) ≡ placed at name ++ others
       whole_is others are = front_placed ∙ ap (λ (x : List Placed). placed at name ++ x) are
 
       nothing_between : before ≡ [] → value ≡ [] → placed after_name before ++ (text ++ close) ≡ close
-      nothing_between before_is no_value = ap (λ (x : List ℕ). placed after_name x ++ (text ++ close)) before_is ∙ ap (λ (x : List ℕ). placed in_value (chars x) ++ close) no_value ∙ ap (λ (x : List ℕ). placed in_value x ++ close) chars-nil
+      nothing_between before_is no_value = (λ i. placed after_name (before_is i) ++ (placed in_value (chars (no_value i)) ++ close)) ∙ ap (λ (x : List ℕ). placed in_value x ++ close) chars-nil
 
       -- the part is all of it
       all_own : ((last : ℕ) (rest : List Placed) → characters (take 1 rest) ≡ next ∷ [] → IsPart table last rest (record { text = whole_text; attribute = Some attribute; errors = [] })) → HasFront table attribute (next_at at run 0) whole_text next
@@ -328,7 +314,7 @@ module _ (run : List ℕ) (found : PlainAttribute) (found_is : IsPlainAttribute 
           IsPart.quoted (placed at name) sign opens closes pieces mark (is_name sign refl) refl refl quote
           (ap (all (λ c. not (eqb c mark))) (sym text_is) ∙ all_placed (λ c. not (eqb c mark)) in_value (chars value) (all_chars (λ c. not (eqb c mark)) (λ byte l. grind (arith, l, quote, nat_tests)) value value_utf8 inside)) are refl
           (part_is whole_text (sign ++ opens ++ pieces_text pieces ++ closes) (value_bytes pieces) (value_errors pieces ++ error_if (not (stops ends_name rest)) MissingWhitespaceBetweenAttributes (place last rest))
-          (whole_is (sign ++ opens ++ pieces_text pieces ++ closes) (ap (λ (x : List ℕ). placed after_name x ++ (text ++ close)) before_is ∙ ap (λ (x : List ℕ). sign ++ (opens ++ (text ++ placed (in_value + length value) x))) after_is ∙ ap (λ (x : List Placed). sign ++ (opens ++ (x ++ closes))) text_is))
+          (whole_is (sign ++ opens ++ pieces_text pieces ++ closes) (λ i. placed after_name (before_is i) ++ (text_is i ++ placed (in_value + length value) (after_is i))))
           value_is
           (ap (λ (x : List ParseError). x ++ error_if (not (stops ends_name rest)) MissingWhitespaceBetweenAttributes (place last rest)) none
           ∙ ap (λ (b : Bool). error_if (not b) MissingWhitespaceBetweenAttributes (place last rest)) (follows ends_name next rest ends follow))))
@@ -345,7 +331,7 @@ module _ (run : List ℕ) (found : PlainAttribute) (found_is : IsPlainAttribute 
           })
           are
           (part_is whole_text (sign ++ pieces_text pieces) (value_bytes pieces) (unquoted_errors pieces)
-          (whole_is (sign ++ pieces_text pieces) (ap (λ (x : List ℕ). placed after_name x ++ (text ++ close)) before_is ∙ ap (λ (x : List ℕ). sign ++ (text ++ placed (in_value + length value) x)) after_is ∙ ap (λ (x : List Placed). sign ++ x) (append-nil text ∙ text_is)))
+          (whole_is (sign ++ pieces_text pieces) ((λ i. placed after_name (before_is i) ++ (text_is i ++ placed (in_value + length value) (after_is i))) ∙ (λ i. sign ++ append-nil (pieces_text pieces) i)))
           value_is
           (even_quiet pieces none (ap (all not_odd) (sym text_is) ∙ all_placed not_odd in_value (chars value) (all_weaker is_unquoted_byte not_odd unquoted_even (chars value) passes)))))
       front_here (IsWritten.missing before_is no_value after_is ends) = all_own (λ last rest follow.
@@ -385,6 +371,5 @@ module _ (run : List ℕ) (found : PlainAttribute) (found_is : IsPlainAttribute 
           (ap (λ (x : List Placed). x ++ (fed ++ (drop 1 part.text ++ after))) nothing.0 ∙ sym (append_assoc fed (drop 1 part.text) after) ∙ ap (λ (x : List Placed). x ++ after) (sym front.begins_so))
           (λ last more. subst (λ (x : List Placed). IsPart table last x part) (sym (append_assoc front.spaces (p ∷ []) more)) (front.is_part last (p ∷ more) refl)) later_names new [] later (sym (append-nil h.own ∙ nothing.1))
           (ended.1 ∙ ap (λ (x : List ParseError). x ++ repeated (names_after [] h.parts) part.attribute) (sym (append-nil errors))) (ends.name_is ∙ name_same) ends.phase_is ended.0 gone in
-          subst (λ (x : List Placed). IsInTag table later_names new (body ++ placed at (chars (take end run))) x later) (sym next_is)
-          (subst (λ (x : List Placed). IsInTag table later_names new x (p ∷ []) later) (append_assoc body front.own front.spaces ∙ ap (λ (x : List Placed). body ++ x) (sym front.text_is))
-          (spaces_follow front.spaces table later_names new (body ++ front.own) p later ends.phase_is front.are_spaces early))
+          transport (λ t. IsInTag table later_names new ((append_assoc body front.own front.spaces ∙ (λ i. body ++ sym front.text_is i)) t) (sym next_is t) later)
+          (spaces_follow front.spaces table later_names new (body ++ front.own) p later ends.phase_is front.are_spaces early)

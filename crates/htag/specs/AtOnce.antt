@@ -5,9 +5,7 @@ use Rattle.std.specs.List.{list_all}
 use Rattle.std.specs.Str.{chars}
 use Rattle.names.specs.declared.placed.Placed.{Placed}
 use Rattle.names.specs.Placed.{is_equals, is_greater, is_letter, is_quote, is_space, placed}
-use Rattle.charref.specs.declared.reference.Characters.{Characters}
-use Rattle.charref.specs.Pieces.{characters_of}
-use Rattle.charref.specs.Reference.{Entities, IsReference, Piece}
+use Rattle.charref.specs.Reference.{Entities, Piece}
 use Rattle.htext.specs.Run.{is_unquoted_byte, is_word_byte, IsCut}
 use Rattle.htag.specs.declared.at_once.PlainAttribute.{PlainAttribute}
 use Rattle.htag.specs.declared.at_once.PlainValue.{PlainValue}
@@ -80,13 +78,3 @@ pub record ArePieces (table : Entities) (text rest : List Placed) (old new : Lis
 pub record IsQuietFront (table : Entities) (run : List ℕ) (count : ℕ) (old new : List ℕ) : Type 0 where
   pub cut : IsCut count run
   pub reads : (at : ℕ) → ArePieces table (placed at (chars (take count run))) (placed (at + count) (chars (drop count run))) old new
-
--- At the front of what is left of a value is a reference of this length, without errors, or an `&` that is text.
-pub record IsQuietReference (table : Entities) (run : List ℕ) (characters : Characters) (count : ℕ) : Type 0 where
-  pub own : List ℕ
-  pub others : List ℕ
-  pub run_is : run ≡ 38 ∷ own ++ others
-  pub count_is : count ≡ 1 + length own
-  pub ascii : list_all is_ascii own ≡ true
-  pub reads : (at : ℕ) → IsReference table true (placed (at + count) (chars others))
-      (record { text = record { ch = 38; at = at } ∷ placed (at + 1) own; gives = characters_of characters; errors = [] })

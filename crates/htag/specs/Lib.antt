@@ -3,7 +3,6 @@ pub mod Tag
 pub mod Attributes
 pub mod Seen
 pub mod ValueWalk
-pub mod ValueSteps
 pub mod TagWalk
 pub mod Steps
 pub mod Run

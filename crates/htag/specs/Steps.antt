@@ -12,8 +12,6 @@ use Rattle.htag.specs.declared.tag_state.TagState.TheVariants as phase
 use Rattle.htag.specs.declared.walk.TagWalk.{TagWalk}
 use Rattle.htag.specs.Seen.{HasSeen}
 use Rattle.htag.specs.Tag.{Attribute, Part, repeated, name_errors_here}
-use Rattle.htag.specs.declared.value.ValueWalk.{ValueWalk}
-use Rattle.htag.specs.ValueWalk.{EndsValue}
 use Rattle.htag.specs.TagWalk.{NoValue, names_after, HasAttributes}
 
 -- A tag of this kind has begun; its name is in the walk already.
@@ -38,13 +36,6 @@ pub record EndsAs (it : Attribute) (before after : Texts) (old : TagWalk) (error
 
 abbrev pub EndsAttribute : Texts → Texts → TagWalk → List ParseError → TagWalk → List ParseError → Type 0
 EndsAttribute before after old = EndsAs (walked_attribute old) before after old
-
--- The value of an attribute has been read to its end, and the attribute with it: this value, and these errors in between.
-pub record EndsAttributeValue (before after : Texts) (old : TagWalk) (errors : List ParseError) (new : TagWalk) (later : List ParseError) : Type 0 where
-  pub value : ValueWalk
-  pub mid : List ParseError
-  pub ends_value : EndsValue old.value errors value mid
-  pub ends_attribute : EndsAttribute before after (record old { value = value }) mid new later
 
 -- what stays while an attribute is read
 pub record KeepsTag (old new : TagWalk) : Type 0 where

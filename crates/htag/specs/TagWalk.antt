@@ -12,8 +12,8 @@ use Rattle.htag.specs.declared.tag_state.TagState.{TagState}
 use Rattle.htag.specs.declared.tag_state.TagState.TheVariants as phase
 use Rattle.htag.specs.declared.walk.TagWalk.{TagWalk}
 use Rattle.htag.specs.Attributes.{AttrsMean}
-use Rattle.htag.specs.declared.pending.Pending.TheVariants as reading
-use Rattle.htag.specs.declared.value.ValueWalk.{ValueWalk}
+use Rattle.htag.specs.declared.piece.Pending.TheVariants as reading
+use Rattle.htag.specs.declared.piece.ValueWalk.{ValueWalk}
 use Rattle.htag.specs.ValueWalk.{IsInValue, IsWholeValue}
 use Rattle.htag.specs.Seen.{HasSeen}
 use Rattle.htag.specs.Tag.{Part, AreParts, parts_text, attributes_after, named_by, has_attribute, tag_close, tag_errors, is_sign, ends_name}

@@ -1,5 +1,5 @@
 -- What a walk through an attribute's value has read.
-use Rattle.std.specs.Prelude.{◌≡◌, ℕ, Bool, true, false, ◌==◌, List, [], ◌∷◌, ◌++◌, map, option_to_list, encode_utf8_all}
+use Rattle.std.specs.Prelude.{◌≡◌, ℕ, ◌-◌, Bool, true, false, ◌==◌, List, [], ◌∷◌, ◌++◌, length, drop, map, option_to_list, encode_utf8_all}
 use Rattle.std.specs.String.{string_bytes}
 use Rattle.names.specs.declared.error.ErrorCode.TheVariants.{MissingSemicolonAfterCharacterReference, UnknownNamedCharacterReference}
 use Rattle.names.specs.declared.error.ParseError.{ParseError}
@@ -11,9 +11,9 @@ use Rattle.charref.specs.Held.{held_characters}
 use Rattle.charref.specs.Pieces.{characters_of}
 use Rattle.charref.specs.Reference.{Entities, Piece, IsReference, IsTable, ampersand}
 use Rattle.charref.specs.Walk.{WalkHasTaken}
-use Rattle.htag.specs.declared.pending.Pending.{Pending}
-use Rattle.htag.specs.declared.pending.Pending.TheVariants as reading
-use Rattle.htag.specs.declared.value.ValueWalk.{ValueWalk}
+use Rattle.htag.specs.declared.piece.Pending.{Pending}
+use Rattle.htag.specs.declared.piece.Pending.TheVariants as reading
+use Rattle.htag.specs.declared.piece.ValueWalk.{ValueWalk}
 use Rattle.htag.specs.Tag.{value_errors, unquoted_errors}
 use Rattle.htag.specs.Value.{AreValue, pieces_text, plain_piece, value_bytes}
 
@@ -103,3 +103,8 @@ pub record TellsReference (found : Reference) (old : ValueWalk) (errors : List P
   pub held_is : new.held ≡ old.held
   pub bytes : string_bytes new.text ≡ string_bytes old.text ++ encode_utf8_all (characters_of found.characters)
   pub later_is : later ≡ errors ++ reference_errors found old.at
+
+-- The last characters held are added, this many.
+pub record GivesBack (count : ℕ) (old new : ValueWalk) : Type 0 where
+  pub reading_is : new.reading ≡ old.reading
+  pub bytes : string_bytes new.text ≡ string_bytes old.text ++ encode_utf8_all (drop (length old.held.items - count) old.held.items)

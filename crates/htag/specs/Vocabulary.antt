@@ -1,14 +1,13 @@
 -- The words of the contracts, in one place.
 pub use Rattle.charref.specs.Reference.{Entities}
 pub use Rattle.charref.specs.declared.walk.Walk.{Walk as Handed}
-pub use Rattle.htag.specs.AtOnce.{IsBareName, IsTagName, IsPlainAttribute, IsPlainValue, is_no_reference, IsQuietFront, IsQuietReference}
-pub use Rattle.htag.specs.Run.{IsValueRun, PushesWords, next_at, TakesTagPart, TakesTagRun, TakesWhole}
-pub use Rattle.htag.specs.Steps.{AddsToName, BeginsAttribute, EndsAs, EndsAttribute, EndsAttributeValue, IsBegun}
+pub use Rattle.htag.specs.AtOnce.{IsBareName, IsTagName, IsPlainAttribute, IsPlainValue, is_no_reference, IsQuietFront}
+pub use Rattle.htag.specs.Run.{IsValueRun, not_ended, TakesFront, TakesTagRun}
+pub use Rattle.htag.specs.Steps.{AddsToName, BeginsAttribute, EndsAs, EndsAttribute, IsBegun}
 pub use Rattle.htag.specs.Tag.{Attribute, ends_name, is_odd}
 pub use Rattle.htag.specs.TagWalk.{IsCutTag, IsInTag, NoValue, StepsInTag, TakesInTag}
 pub use Rattle.htag.specs.Value.{plain_piece}
-pub use Rattle.htag.specs.ValueSteps.{AddsPlain, GivesBack}
-pub use Rattle.htag.specs.ValueWalk.{EndsValue, TakesInValue, TellsReference, pieces_errors}
+pub use Rattle.htag.specs.ValueWalk.{EndsValue, GivesBack, TakesInValue, TellsReference, pieces_errors}
 pub use Rattle.htag.specs.declared.kind.TagKind.TheVariants.{End, Start}
 pub use Rattle.htext.specs.Run.{is_clean, is_quoted_byte, IsCut}
 pub use Rattle.htext.specs.declared.decoder.TheConstants.{MAX_INPUT}

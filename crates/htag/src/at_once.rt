@@ -2,8 +2,9 @@
 
 ghost use Rattle.std.specs.Prelude.{◌≡◌, ◌<◌, ◌≤◌, ◌==◌, ◌+◌, IfSome, length, not, slice_index, true};
 ghost use Rattle.std.specs.List.{prefix_len};
-ghost use Rattle.htag.specs.Vocabulary.{is_quote, is_quoted_byte, IsBareName, IsTagName, IsPlainAttribute, IsPlainValue, ends_name};
+ghost use Rattle.htag.specs.Vocabulary.{is_quote, is_quoted_byte, IsBareName, IsTagName, IsPlainAttribute, IsPlainValue};
 
+use crate::push::ends_name;
 use htext::{quoted_run, unquoted_run, word_run};
 
 /// The length of a tag's name at the front of a run, where it begins with a small letter and its characters stand for themselves; 0 where
@@ -39,14 +40,6 @@ pub fn is_bare(run: &[u8], length: usize) -> bool
     length < run.len() && run[length] == b'>'
 }
 
-/// Whether a byte ends a name.
-#[inline(always)]
-pub(crate) fn ends(byte: u8) -> bool
-    ensures { result ≡ ends_name byte }
-{
-    byte == b'>' || byte == b'/' || byte.is_ascii_whitespace()
-}
-
 /// What follows an attribute's name: the lengths of what is before its value (`=` and a quote, `=` alone, or nothing), of the value, and of
 /// what is after it (the quote, or white space after a missing value); and whether no `&` is in the value.
 #[derive(Clone, Copy)]
@@ -55,6 +48,19 @@ pub(crate) struct PlainValue {
     pub value: usize,
     pub after: usize,
     pub plain: bool,
+}
+
+/// A value with so many bytes before it, of its own, and after it.
+#[inline(always)]
+fn value_of(before: usize, value: usize, after: usize, plain: bool) -> PlainValue
+    ensures { result ≡ record { before = before; value = value; after = after; plain = plain } }
+{
+    PlainValue {
+        before,
+        value,
+        after,
+        plain,
+    }
 }
 
 /// How many bytes are before the first one that is this quote.
@@ -97,13 +103,8 @@ fn quoted_value(run: &[u8]) -> Option<PlainValue>
     let rest = &run[2..];
     let plain = quoted_run(mark, rest);
     let value = value_end(plain, mark, rest);
-    if value + 1 < rest.len() && ends(rest[value + 1]) {
-        return Some(PlainValue {
-            before: 2,
-            value,
-            after: 1,
-            plain: plain == value,
-        });
+    if value + 1 < rest.len() && ends_name(char::from(rest[value + 1])) {
+        return Some(value_of(2, value, 1, plain == value));
     }
     None
 }
@@ -121,27 +122,9 @@ fn unquoted_value(run: &[u8]) -> Option<PlainValue>
         && value < rest.len()
         && (rest[value] == b'>' || rest[value].is_ascii_whitespace())
     {
-        return Some(PlainValue {
-            before: 1,
-            value,
-            after: 0,
-            plain: true,
-        });
+        return Some(value_of(1, value, 0, true));
     }
     None
-}
-
-/// No value, and so many bytes after its place.
-#[inline(always)]
-fn no_value(after: usize) -> PlainValue
-    ensures { result ≡ record { before = 0; value = 0; after = after; plain = true } }
-{
-    PlainValue {
-        before: 0,
-        value: 0,
-        after,
-        plain: true,
-    }
 }
 
 /// A missing value: `/` or `>` comes in its place, or white space, after which another attribute may begin, but no value.
@@ -152,12 +135,12 @@ fn missing_value(run: &[u8]) -> Option<PlainValue>
 {
     let first = run[0];
     if first == b'/' || first == b'>' {
-        return Some(no_value(0));
+        return Some(value_of(0, 0, 0, true));
     }
     if first.is_ascii_whitespace() && run.len() > 1 {
         let next = run[1];
         if b'/' <= next && next <= b'z' && next != b'=' {
-            return Some(no_value(1));
+            return Some(value_of(0, 0, 1, true));
         }
     }
     None

@@ -1,7 +1,7 @@
 //! An attribute of a tag.
 
-ghost use Rattle.std.specs.Prelude.{◌≡◌, ◌∷◌, ◌++◌, List, [], slice_get, Some, IfErr, OnOk, MatchResult};
-ghost use Rattle.htag.specs.Vocabulary.{AreNames, Attribute, EndsAs, Character, Texts, Grows, Entities, EndsAttribute, EndsAttributeValue, BeginsAttribute, AddsToName, IsInTag, StepsInTag, TakesInTag, Memory};
+ghost use Rattle.std.specs.Prelude.{◌≡◌, ◌∷◌, ◌++◌, List, [], slice_get, Some, IfErr, OnOk, MatchResult, if◌then◌else◌};
+ghost use Rattle.htag.specs.Vocabulary.{AreNames, Attribute, EndsAs, Character, Texts, Grows, Entities, EndsAttribute, BeginsAttribute, AddsToName, IsInTag, StepsInTag, TakesInTag, Memory};
 
 use crate::push::{Errors, ends_name, keep_if, keep_null, push_lowered};
 use crate::tag_state::TagState;
@@ -44,15 +44,17 @@ impl<'t> TagWalk<'t> {
         push_lowered(&mut self.attribute, next.ch)
     }
 
-    /// The attribute name state (`#attribute-name-state`).
+    /// The attribute name state (`#attribute-name-state`), and, where white space came after the name, the after attribute name state
+    /// (`#after-attribute-name-state`).
     #[inline(always)]
     pub(crate) fn in_attribute_name(
         &mut self,
+        spaced: bool,
         names: &mut Names,
         next: Placed,
         errors: &mut Errors,
     ) -> Result<bool, Refusal>
-        requires { self.old.phase ≡ TagState.AttributeName }
+        requires { self.old.phase ≡ (if spaced then TagState.AfterAttributeName else TagState.AttributeName) }
         ensures takes { (table : Entities) → StepsInTag table names.old names.new self.old next errors.old.items result self.new errors.new.items }
         ensures grows { Grows names.old names.new }
         ensures kind { OnOk result (self.new.kind ≡ self.old.kind) }
@@ -65,34 +67,11 @@ impl<'t> TagWalk<'t> {
             self.phase = TagState::BeforeAttributeValue;
             return Ok(false);
         }
-        if next.ch == '/' || next.ch == '>' {
+        if spaced || next.ch == '/' || next.ch == '>' {
             return self.past_attribute(names, next, errors);
         }
         self.add_to_name(next, errors)?;
         Ok(false)
-    }
-
-    /// The after attribute name state (`#after-attribute-name-state`), after white space.
-    #[inline(always)]
-    pub(crate) fn after_attribute_name(
-        &mut self,
-        names: &mut Names,
-        next: Placed,
-        errors: &mut Errors,
-    ) -> Result<bool, Refusal>
-        requires { self.old.phase ≡ TagState.AfterAttributeName }
-        ensures takes { (table : Entities) → StepsInTag table names.old names.new self.old next errors.old.items result self.new errors.new.items }
-        ensures grows { Grows names.old names.new }
-        ensures kind { OnOk result (self.new.kind ≡ self.old.kind) }
-    {
-        if next.ch.is_ascii_whitespace() {
-            return Ok(false);
-        }
-        if next.ch == '=' {
-            self.phase = TagState::BeforeAttributeValue;
-            return Ok(false);
-        }
-        self.past_attribute(names, next, errors)
     }
 
     /// The before attribute value state (`#before-attribute-value-state`).
@@ -162,7 +141,8 @@ impl<'t> TagWalk<'t> {
         ensures kind { OnOk result (self.new.kind ≡ self.old.kind) }
     {
         if next.ch == '>' || next.ch.is_ascii_whitespace() {
-            self.end_value(names, errors)?;
+            self.value.end(errors)?;
+            self.end_attribute(names, errors)?;
             return self.before_attribute_name(next, errors);
         }
         self.value.take(table, false, next, errors)?;
@@ -204,19 +184,6 @@ impl<'t> TagWalk<'t> {
     {
         self.end_attribute(names, errors)?;
         self.before_attribute_name(next, errors)
-    }
-
-    /// A value without quotes, or one that the input cuts off, has been read, and its attribute with it.
-    pub(crate) fn end_value(
-        &mut self,
-        names: &mut Names,
-        errors: &mut Errors,
-    ) -> Result<(), Refusal>
-        ensures ended { MatchResult result (λ _. EndsAttributeValue names.old names.new self.old errors.old.items self.new errors.new.items) (λ e. e ≡ Memory) }
-        ensures grows { Grows names.old names.new }
-    {
-        self.value.end(errors)?;
-        self.end_attribute(names, errors)
     }
 
     /// An attribute has been read: keeps the first one of its name.

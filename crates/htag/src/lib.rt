@@ -5,7 +5,6 @@
 mod at_once;
 mod attribute;
 mod kind;
-mod pending;
 mod piece;
 mod push;
 mod quiet;
@@ -14,7 +13,6 @@ mod seen;
 mod stamp;
 mod tag_name_state;
 mod tag_state;
-mod value;
 mod walk;
 
 pub use at_once::{bare_name, is_bare, tag_name};

@@ -2,14 +2,36 @@
 //! `#attribute-value-(unquoted)-state` and `#character-reference-state` to `#numeric-character-reference-end-state`).
 
 ghost use Rattle.std.specs.Prelude.{◌≡◌, ◌-◌, true, OnOk};
-ghost use Rattle.htag.specs.Vocabulary.{NoValue, TakesInValue, EndsValue, TellsReference, AddsPlain, GivesBack};
+ghost use Rattle.htag.specs.Vocabulary.{NoValue, TakesInValue, EndsValue, TellsReference, GivesBack};
 
-use crate::pending::Pending;
 use crate::push::{Errors, is_fault, keep_if, keep_null, push_all, push_value};
-use crate::value::ValueWalk;
 use charref::{Reference, Table, Walk};
 use names::{ErrorCode, Placed};
 use std::alloc::{AllocError, Global};
+
+/// What of a value is read but not in its text yet.
+#[derive(Clone, Copy)]
+pub(crate) enum Pending<'t> {
+    Nothing,
+    /// An `&` and what this walk was handed.
+    Reference(Walk<'t>),
+    /// Nothing but an error, at an `&` that no key begins: it is reported if a `;` follows the alphanumerics
+    /// (`#ambiguous-ampersand-state`).
+    AmbiguousAmpersand,
+}
+
+/// Reads the value of an attribute, a character at a time, with the character references in it: the attribute value states
+/// (`#attribute-value-(double-quoted)-state` and the two after it), and those of a character reference in them.
+#[derive(Drop)]
+pub(crate) struct ValueWalk<'t> {
+    /// What was read of the value, but for what `reading` says.
+    pub text: String,
+    pub reading: Pending<'t>,
+    /// The place of the `&` that is being read.
+    pub at: u64,
+    /// The characters after it, but for those of a number.
+    pub held: Vec<char>,
+}
 
 impl<'t> ValueWalk<'t> {
     pub fn new(alloc: Global) -> ValueWalk<'t>
@@ -31,7 +53,8 @@ impl<'t> ValueWalk<'t> {
         self.reading = Pending::Nothing;
     }
 
-    /// Takes the next character of the value, which does not end it.
+    /// Takes the next character of the value, which does not end it. (After an `&` that no key begins: the ambiguous ampersand state,
+    /// `#ambiguous-ampersand-state`.)
     pub fn take(
         &mut self,
         table: &'t Table,
@@ -44,7 +67,16 @@ impl<'t> ValueWalk<'t> {
         match self.reading {
             Pending::Nothing => self.take_next(table, quoted, next, errors),
             Pending::Reference(walk) => self.in_reference(walk, table, quoted, next, errors),
-            Pending::AmbiguousAmpersand => self.in_ambiguous_ampersand(table, quoted, next, errors),
+            Pending::AmbiguousAmpersand => {
+                if next.ch.is_ascii_alphanumeric() {
+                    self.text.push(next.ch)?;
+                    return Ok(());
+                }
+                let code = ErrorCode::UnknownNamedCharacterReference;
+                keep_if(next.ch == ';', code, self.at, errors)?;
+                self.reading = Pending::Nothing;
+                self.take_next(table, quoted, next, errors)
+            }
         }
     }
 
@@ -74,22 +106,15 @@ impl<'t> ValueWalk<'t> {
         ensures { OnOk result (TakesInValue table.now quoted self.old next errors.old.items self.new errors.new.items) }
     {
         if next.ch != '&' {
-            return self.push(quoted, next, errors);
+            let code = ErrorCode::UnexpectedCharacterInUnquotedAttributeValue;
+            keep_if(is_fault(quoted, next.ch), code, next.at, errors)?;
+            keep_null(next, errors)?;
+            return push_value(&mut self.text, next.ch);
         }
         self.reading = Pending::Reference(Walk::new(table, true));
         self.at = next.at;
         self.held.clear();
         Ok(())
-    }
-
-    /// A character by itself.
-    fn push(&mut self, quoted: bool, next: Placed, errors: &mut Errors) -> Result<(), AllocError>
-        ensures { OnOk result (AddsPlain quoted self.old next errors.old.items self.new errors.new.items) }
-    {
-        let code = ErrorCode::UnexpectedCharacterInUnquotedAttributeValue;
-        keep_if(is_fault(quoted, next.ch), code, next.at, errors)?;
-        keep_null(next, errors)?;
-        push_value(&mut self.text, next.ch)
     }
 
     /// The character reference state (`#character-reference-state`) and those after it: after an `&` that may be a reference's.
@@ -131,27 +156,6 @@ impl<'t> ValueWalk<'t> {
             return Ok(());
         }
         self.give_back(found.left - 1)?;
-        self.take_next(table, quoted, next, errors)
-    }
-
-    /// The ambiguous ampersand state (`#ambiguous-ampersand-state`): after an `&` that no key begins.
-    fn in_ambiguous_ampersand(
-        &mut self,
-        table: &'t Table,
-        quoted: bool,
-        next: Placed,
-        errors: &mut Errors,
-    ) -> Result<(), AllocError>
-        requires { self.old.reading ≡ Pending.AmbiguousAmpersand }
-        ensures { OnOk result (TakesInValue table.now quoted self.old next errors.old.items self.new errors.new.items) }
-    {
-        if next.ch.is_ascii_alphanumeric() {
-            self.text.push(next.ch)?;
-            return Ok(());
-        }
-        let code = ErrorCode::UnknownNamedCharacterReference;
-        keep_if(next.ch == ';', code, self.at, errors)?;
-        self.reading = Pending::Nothing;
         self.take_next(table, quoted, next, errors)
     }
 

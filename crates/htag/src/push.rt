@@ -1,10 +1,9 @@
 //! Characters and errors, added to what was read.
 
-ghost use Rattle.std.specs.Prelude.{◌≡◌, ◌==◌, ◌&&◌, ◌∷◌, ◌++◌, [], not, IfOk, OnOk, string_bytes, encode_utf8_all};
+ghost use Rattle.std.specs.Prelude.{◌≡◌, ◌==◌, ◌&&◌, ◌∷◌, ◌++◌, [], not, OnOk, string_bytes, encode_utf8_all};
 ghost use Rattle.std.specs.Char.{encode_utf8, to_ascii_lowercase};
-ghost use Rattle.htag.specs.Vocabulary.{error_if, null_errors, without_null, ends_name, is_odd, PushesWords};
+ghost use Rattle.htag.specs.Vocabulary.{error_if, null_errors, without_null, ends_name, is_odd};
 
-use htext::word_run;
 use names::{ErrorCode, ParseError, Placed};
 use std::alloc::AllocError;
 
@@ -12,10 +11,11 @@ use std::alloc::AllocError;
 pub(crate) type Errors = Vec<ParseError>;
 
 /// Whether a tag's name ends before this character.
+#[inline(always)]
 pub(crate) fn ends_name(ch: char) -> bool
     ensures { result ≡ ends_name ch }
 {
-    ch.is_ascii_whitespace() || ch == '/' || ch == '>'
+    ch == '>' || ch == '/' || ch.is_ascii_whitespace()
 }
 
 /// Whether a character is a fault in a value, in quotes or not.
@@ -81,14 +81,4 @@ pub(crate) fn push_all(text: &mut String, characters: &[char]) -> Result<(), All
         text.push(*character)?;
     }
     Ok(())
-}
-
-/// The words at the front of a run; returns their length.
-#[inline(always)]
-pub(crate) fn push_words(text: &mut String, run: &str) -> Result<usize, AllocError>
-    ensures { IfOk result (λ count. PushesWords (string_bytes text.old) run.now count (string_bytes text.new)) }
-{
-    let count = word_run(run.as_bytes());
-    text.push_str(&run[..count])?;
-    Ok(count)
 }

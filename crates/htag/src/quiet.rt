@@ -1,29 +1,15 @@
 //! Values that are read at once: characters that stand for themselves, and references that raise no errors (HTML Standard,
 //! `#attribute-value-(double-quoted)-state` to `#attribute-value-(unquoted)-state`).
 
-ghost use Rattle.std.specs.Prelude.{◌≡◌, ◌<◌, [], IfOk, IfSome, length, slice_index, string_bytes, true, if◌then◌else◌};
+ghost use Rattle.std.specs.Prelude.{◌≡◌, ◌<◌, [], IfOk, length, string_bytes, true, if◌then◌else◌};
 ghost use Rattle.std.specs.List.{list_all};
 ghost use Rattle.std.specs.Str.{chars};
-ghost use Rattle.htag.specs.Vocabulary.{is_clean, is_no_reference, IsQuietFront, IsQuietReference};
+ghost use Rattle.htag.specs.Vocabulary.{is_clean, is_no_reference, IsQuietFront};
 
-use crate::value::ValueWalk;
-use charref::{Characters, Table, Walk};
+use crate::piece::ValueWalk;
+use charref::{Table, Walk};
 use htext::quoted_run;
 use std::alloc::AllocError;
-
-/// The characters of the reference at the front of what is left of a value, or of an `&` that is text, and its length, if the bytes after it
-/// settle it and it raises no error.
-fn quiet_reference(table: &Table, run: &str) -> Option<(Characters, usize)>
-    requires some { 0 < length run.now }
-    requires amp { slice_index run.now 0 ≡ 38 }
-    ensures { IfSome result (λ it. IsQuietReference table.now run.now it.0 it.1) }
-{
-    let (found, count) = Walk::settled(table, &run.as_bytes()[1..])?;
-    if found.missing_semicolon || found.fault.is_some() || found.is_ambiguous {
-        return None;
-    }
-    Some((found.characters, 1 + count - found.left))
-}
 
 impl<'t> ValueWalk<'t> {
     /// Reads a value that is written so, if it raises no error and each reference in it is settled; `plain` says that no `&` is in it.
@@ -70,22 +56,27 @@ impl<'t> ValueWalk<'t> {
         Ok(true)
     }
 
-    /// Reads the characters up to the first `&`, or the reference at it. Returns the length, or 0 where it is not settled, or an error.
+    /// Reads the characters up to the first `&`, or the reference at it, or an `&` that is text. Returns the length, or 0 where the bytes after
+    /// it do not settle it, or it raises an error.
     #[inline(always)]
     fn read_front(&mut self, table: &Table, run: &str) -> Result<usize, AllocError>
         requires some { 0 < length run.now }
         requires clean { list_all is_clean (chars run.now) ≡ true }
         ensures { IfOk result (λ count. 0 < count → IsQuietFront table.now run.now count (string_bytes self.old.text) (string_bytes self.new.text)) }
     {
-        let count = quoted_run(b'&', run.as_bytes());
+        let bytes = run.as_bytes();
+        let count = quoted_run(b'&', bytes);
         if count > 0 {
             self.text.push_str(&run[..count])?;
             return Ok(count);
         }
-        let Some((characters, size)) = quiet_reference(table, run) else {
+        let Some((found, seen)) = Walk::settled(table, &bytes[1..]) else {
             return Ok(0);
         };
-        characters.push_to(&mut self.text)?;
-        Ok(size)
+        if found.missing_semicolon || found.fault.is_some() || found.is_ambiguous {
+            return Ok(0);
+        }
+        found.characters.push_to(&mut self.text)?;
+        Ok(1 + seen - found.left)
     }
 }

@@ -3,7 +3,7 @@
 ghost use Rattle.std.specs.Prelude.{◌≡◌, OnOk};
 ghost use Rattle.htag.specs.Vocabulary.{Texts, Entities, StepsInTag};
 
-use crate::push::{Errors, keep_if, keep_null, push_lowered};
+use crate::push::{Errors, ends_name, keep_if, keep_null, push_lowered};
 use crate::tag_state::TagState;
 use crate::walk::TagWalk;
 use names::{ErrorCode, Placed, Refusal};
@@ -16,7 +16,7 @@ impl<'t> TagWalk<'t> {
         ensures takes { (table : Entities) (names : Texts) → StepsInTag table names names self.old next errors.old.items result self.new errors.new.items }
         ensures kind { OnOk result (self.new.kind ≡ self.old.kind) }
     {
-        if next.ch == '>' || next.ch == '/' || next.ch.is_ascii_whitespace() {
+        if ends_name(next.ch) {
             self.phase = TagState::BeforeAttributeName;
             return self.before_attribute_name(next, errors);
         }

@@ -4,10 +4,10 @@ ghost use Rattle.std.specs.Prelude.{◌≡◌, ◌∷◌, ◌++◌, ℕ, List, [
 ghost use Rattle.htag.specs.Vocabulary.{Character, Texts, Grows, all, begins, is_letter, name_bytes, Entities, Start, End, IsBegun, NoValue, IsInTag, TakesInTag, IsCutTag, IsTagName, Memory, placed};
 
 use crate::kind::TagKind;
+use crate::piece::ValueWalk;
 use crate::push::push_lowered;
 use crate::seen::Seen;
 use crate::tag_state::TagState;
-use crate::value::ValueWalk;
 use charref::Table;
 use names::{Attr, Names, ParseError, Placed, Refusal};
 use std::alloc::{AllocError, Global};
@@ -113,8 +113,8 @@ impl<'t> TagWalk<'t> {
             TagState::TagName => self.in_tag_name(next, errors),
             TagState::BeforeAttributeName => self.before_attribute_name(next, errors),
             TagState::SelfClosingStartTag => self.self_closing_start_tag(next, errors),
-            TagState::AttributeName => self.in_attribute_name(names, next, errors),
-            TagState::AfterAttributeName => self.after_attribute_name(names, next, errors),
+            TagState::AttributeName => self.in_attribute_name(false, names, next, errors),
+            TagState::AfterAttributeName => self.in_attribute_name(true, names, next, errors),
             TagState::BeforeAttributeValue => self.before_attribute_value(
                 table, names, next, errors,
             ),
@@ -140,9 +140,10 @@ impl<'t> TagWalk<'t> {
             TagState::TagName | TagState::BeforeAttributeName | TagState::SelfClosingStartTag => Ok(
                 (),
             ),
-            TagState::AttributeValueQuoted(_) | TagState::AttributeValueUnquoted => self.end_value(
-                names, errors,
-            ),
+            TagState::AttributeValueQuoted(_) | TagState::AttributeValueUnquoted => {
+                self.value.end(errors)?;
+                self.end_attribute(names, errors)
+            }
             TagState::AttributeName
             | TagState::AfterAttributeName
             | TagState::BeforeAttributeValue

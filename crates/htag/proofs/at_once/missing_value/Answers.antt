@@ -8,7 +8,7 @@ pub returns-then-first-eq47 : goal.returns-then-first-eq47
 returns-then-first-eq47 c =
     let run = c.args.run.now in
     let ends : (eqb (slice_index run 0) 47 || is_greater (slice_index run 0)) ≡ true = grind (arith, nat_tests) in
-    subst (IsPlainValue run) (sym c.no_value.ensures) (missing_is run ends)
+    subst (IsPlainValue run) (sym c.value_of.ensures) (missing_is run ends)
 
 pub returns-then-next-ne61 : goal.returns-then-next-ne61
 returns-then-next-ne61 c =
@@ -16,4 +16,4 @@ returns-then-next-ne61 c =
     let space : is_space (slice_index run 0) ≡ true = grind (arith, nat_tests) in
     let small : is_ascii (slice_index run 1) ≡ true = grind (arith, nat_tests) in
     let other : not (is_space (slice_index run 1) || is_equals (slice_index run 1)) ≡ true = grind (arith, nat_tests) in
-    subst (IsPlainValue run) (sym c.no_value-then-next-ne61.ensures) (apart_is run c.if-run-gt1.true space small other)
+    subst (IsPlainValue run) (sym c.value_of-then-next-ne61.ensures) (apart_is run c.if-run-gt1.true space small other)

@@ -1,4 +1,5 @@
-use Rattle.htag.proofs.Vocabulary.{◌≡◌, ℕ, List, true, ◌-◌, length, take, drop, arith, nat_tests, slice_index, length-drop, take_all, ends_unquoted}
+use Rattle.htag.proofs.Vocabulary.{◌≡◌, ℕ, List, true, ◌-◌, length, take, drop, sym, subst, arith, nat_tests, slice_index, length-drop, take_all, ends_unquoted}
+use Rattle.htag.specs.AtOnce.{IsPlainValue}
 use Rattle.htag.proofs.AtOnce.{unquoted_is}
 use Rattle.htag.proofs.at_once.unquoted_value.Goals as goal
 
@@ -7,4 +8,5 @@ returns-then-is_ascii_whitespace c =
     let run = c.args.run.now in
     let rest : List ℕ = take (length run - 1) (drop 1 run) in
     let ends : ends_unquoted (slice_index rest c.unquoted_run-value.result) ≡ true = grind (arith, nat_tests) in
-    unquoted_is run rest c.unquoted_run-value.result (take_all (length run - 1) (drop 1 run) (omega (arith, length-drop 1 run))) c.requires.long c.requires.equals c.unquoted_run-value.ensures.counted c.if-value-gt0.true c.if-value-rest.true ends
+    subst (IsPlainValue run) (sym c.value_of.ensures)
+    (unquoted_is run rest c.unquoted_run-value.result (take_all (length run - 1) (drop 1 run) (omega (arith, length-drop 1 run))) c.requires.long c.requires.equals c.unquoted_run-value.ensures.counted c.if-value-gt0.true c.if-value-rest.true ends)

@@ -5,12 +5,12 @@ use Rattle.htag.proofs.walk.TagWalk.before_attribute_value.Goals as goal
 pub returns-then-is_ascii_whitespace-clause-takes : goal.returns-then-is_ascii_whitespace-clause-takes
 returns-then-is_ascii_whitespace-clause-takes c = λ body h.
     let is : is_space c.args.next.ch ≡ true = grind (arith, nat_tests) in
-    space_after_equals _ _ _ body _ _ h _ refl refl refl refl refl refl refl c.requires c.requires is
+    space_after_equals _ _ _ body _ _ h _ (record { kind_is = refl; name_is = refl; attrs_are = refl; seen_is = refl; any_is = refl }) refl refl refl c.requires c.requires is
 
 pub returns-then-next-eq34-clause-takes : goal.returns-then-next-eq34-clause-takes
 returns-then-next-eq34-clause-takes c = λ body h.
     let is : is_quote c.args.next.ch ≡ true = grind (arith, nat_tests) in
-    quote_follows _ _ _ body _ _ h _ refl refl refl refl refl refl refl c.requires refl is
+    quote_follows _ _ _ body _ _ h _ (record { kind_is = refl; name_is = refl; attrs_are = refl; seen_is = refl; any_is = refl }) refl refl refl c.requires refl is
 
 pub returns-then-next-eq62-clause-takes : goal.returns-then-next-eq62-clause-takes
 returns-then-next-eq62-clause-takes c = λ body h.

@@ -1,5 +1,6 @@
-use Rattle.htag.proofs.Vocabulary.{◌≡◌, false, eqb, refl, arith, nat_tests}
-use Rattle.htag.proofs.Values.{quote_closes, quoted_goes_on}
+use Rattle.htag.proofs.Vocabulary.{◌≡◌, true, false, not, eqb, ap, refl, and_both, arith, nat_tests}
+use Rattle.htag.proofs.Going.{quoted_goes_on}
+use Rattle.htag.proofs.Values.{quote_closes}
 use Rattle.htag.proofs.walk.TagWalk.in_attribute_value_quoted.Goals as goal
 
 pub returns-then-next-mark-clause-takes : goal.returns-then-next-mark-clause-takes
@@ -8,4 +9,5 @@ returns-then-next-mark-clause-takes c = λ names body h. quote_closes _ _ _ body
 pub returns-clause-takes : goal.returns-clause-takes
 returns-clause-takes c = λ names body h.
     let other : eqb c.args.next.ch c.args.mark ≡ false = grind (arith, nat_tests) in
-    quoted_goes_on _ _ _ body _ _ h c.args.mark _ _ (record { kind_is = refl; name_is = refl; attrs_are = refl; seen_is = refl; any_is = refl }) refl refl c.in_ok-take.ensures c.requires refl other
+    let v = c.in_ok-take.ensures in
+    quoted_goes_on _ _ _ body _ _ h _ v.more _ (record { kind_is = refl; name_is = refl; attrs_are = refl; seen_is = refl; any_is = refl }) refl refl refl v.later_is c.args.mark c.requires v.takes (and_both _ true (ap not other) refl)

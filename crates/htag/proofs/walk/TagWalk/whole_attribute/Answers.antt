@@ -1,9 +1,9 @@
-use Rattle.htag.proofs.Vocabulary.{◌≡◌, [], Bool, ℕ, List, refl, sym, ap, ◌∙◌, subst, Some, length, slice_get, list_all, string_bytes, Attr, true, if◌then◌else◌}
+use Rattle.htag.proofs.Vocabulary.{◌≡◌, [], Bool, ℕ, List, refl, sym, ap, ◌∙◌, subst, Some, length, slice_get, list_all, string_bytes, Attr, true, if◌then◌else◌, grows_not}
 use Rattle.std.specs.Str.{chars}
 use Rattle.htext.specs.Run.{is_clean}
 use Rattle.htext.proofs.Runs.{front_of}
 use Rattle.htag.specs.AtOnce.{IsQuietFront, is_no_reference}
-use Rattle.htag.proofs.InRun.{none_cut, none_taken}
+use Rattle.htag.proofs.InRun.{none_cut, none_front, none_taken}
 use Rattle.htag.proofs.Keeping.{other_value}
 use Rattle.htag.proofs.Whole.{attribute, end_cut, from_edge, name_edge, to_edge, value, whole_taken, written_clean, written_is}
 use Rattle.htag.proofs.walk.TagWalk.whole_attribute.Goals as goal
@@ -27,23 +27,19 @@ read_value-requires-clause-clean c =
     let is = (rw c.as_bytes.ensures.value at c.in-Some.ensures.front) in
     ap (λ (x : List ℕ). list_all is_clean (chars x)) (c.range-written.ensures.value ∙ written_is c.args.run.now c.in-Some.found is c.utf8.run) ∙ written_clean c.args.run.now c.in-Some.found is c.utf8.run c.requires.clean
 
-pub returns-then-not-branch-clause-takes : goal.returns-then-not-branch-clause-takes
-returns-then-not-branch-clause-takes c = λ body h. none_taken _ _ _ body _ _ c.args.at c.args.run.now (other_value _ _ _ _ body _ _ h c.requires.before refl refl refl refl refl)
+pub returns-then-not-branch : goal.returns-then-not-branch
+returns-then-not-branch c = record {
+  cut = none_cut c.args.run.now c.utf8.run;
+  takes = λ body h. none_taken _ _ _ body _ _ c.args.at c.args.run.now (other_value _ _ _ _ body _ _ h c.requires.before refl (record { kind_is = refl; name_is = refl; attrs_are = refl; seen_is = refl; any_is = refl }));
+  grows = grows_not _;
+  kind = refl;
+}
 
-pub returns-then-not-branch-clause-cut : goal.returns-then-not-branch-clause-cut
-returns-then-not-branch-clause-cut c = none_cut c.args.run.now c.utf8.run
+pub returns-in_default : goal.returns-in_default
+returns-in_default c = none_front _ _ _ _ _ _ c.utf8.run
 
-pub returns-in_default-clause-takes : goal.returns-in_default-clause-takes
-returns-in_default-clause-takes c = λ body h. none_taken _ _ _ body _ _ c.args.at c.args.run.now h
-
-pub returns-in_default-clause-cut : goal.returns-in_default-clause-cut
-returns-in_default-clause-cut c = none_cut c.args.run.now c.utf8.run
-
-pub returns-clause-cut : goal.returns-clause-cut
-returns-clause-cut c = end_cut c.args.run.now c.in-Some.found (rw c.as_bytes.ensures.value at c.in-Some.ensures.front) c.utf8.run
-
-pub returns-clause-takes : goal.returns-clause-takes
-returns-clause-takes c = λ body h.
+pub returns : goal.returns
+returns c =
     let run = c.args.run.now in
     let found = c.in-Some.found in
     let is = (rw c.as_bytes.ensures.value at c.in-Some.ensures.front) in
@@ -53,10 +49,16 @@ returns-clause-takes c = λ body h.
     let written = c.range-written.result.now in
     let read = string_bytes c.read_value.new.self.text in
     let text_is : written ≡ value run found is u = c.range-written.ensures.value ∙ written_is run found is u in
-    let bytes_is : bytes ≡ (if found.value.plain then written else read) = ap (λ (a : Attr). a.value) c.in_ok-attr.ensures ∙ c.value.ensures in
+    let bytes_is : bytes ≡ (if found.value.plain then written else read) = ap (λ (a : Attr). a.value) c.in_ok-attr.ensures ∙ c.value-value.ensures in
     let quiet : IsQuietFront table (value run found is u) (length (value run found is u)) [] bytes =
     subst (λ (x : List ℕ). IsQuietFront table x (length x) [] bytes) text_is (subst (IsQuietFront table written (length written) []) (sym bytes_is) (c.in_ok-read_value.ensures c.if-not-branch.false)) in
     let plain : found.value.plain ≡ true → bytes ≡ value run found is u = λ e. bytes_is ∙ ap (λ (b : Bool). if b then written else read) e ∙ text_is in
     let ends = c.in_ok-keep.ensures.keeps c.args.names.now c.intern.new.self (attribute run found is u c.args.at table bytes quiet plain) c.in_ok-name.ensures.grows c.in_ok-name.ensures.names
     (ap (slice_get c.intern.new.self) (ap (λ (a : Attr). a.name) c.in_ok-attr.ensures) ∙ c.in_ok-name.ensures.number ∙ ap (λ (x : List ℕ). Some x) (c.range.ensures.value ∙ front_of found.name run)) refl refl in
-    whole_taken run found is u c.args.at table bytes quiet plain c.args.names.now c.intern.new.self c.args.self.now _ c.keep.new.self body c.args.errors.now.items c.keep.new.errors.items h c.requires.before refl refl refl refl ends
+    record {
+      cut = end_cut run found is u;
+      takes = λ body h.
+          whole_taken run found is u c.args.at table bytes quiet plain c.args.names.now c.intern.new.self c.args.self.now _ c.keep.new.self body c.args.errors.now.items c.keep.new.errors.items h c.requires.before refl refl refl refl ends;
+      grows = c.in_ok-name.ensures.grows;
+      kind = c.in_ok-keep.ensures.kind;
+    }

@@ -1,7 +1,7 @@
 use Rattle.htag.proofs.Vocabulary.{◌++◌, ◌≤◌, [], List, ℕ, refl, sym, ap, ◌∙◌, append-nil, append_assoc, arith, subst, Vec, Global, on_ok_weaker, encode_utf8_all, encode_utf8, string_bytes, characters_of, characters, ParseError, IsInValue}
 use Rattle.charref.proofs.Keeping.{kept_none}
 use Rattle.htag.proofs.InValue.{other_kept, reference_on, reference_ends, reference_read, run_begins, told_then_given}
-use Rattle.htag.proofs.value.ValueWalk.in_reference.Goals as goal
+use Rattle.htag.proofs.piece.ValueWalk.in_reference.Goals as goal
 
 pub returns-in-None : goal.returns-in-None
 returns-in-None c =

@@ -1,6 +1,6 @@
 use Rattle.htag.proofs.Vocabulary.{true, on_ok_weaker}
 use Rattle.htag.proofs.InValue.{ends_reference, told_then_given}
-use Rattle.htag.proofs.value.ValueWalk.end_reference.Goals as goal
+use Rattle.htag.proofs.piece.ValueWalk.end_reference.Goals as goal
 
 pub returns : goal.returns
 returns c =

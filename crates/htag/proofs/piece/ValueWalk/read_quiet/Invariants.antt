@@ -1,6 +1,6 @@
 use Rattle.htag.proofs.Vocabulary.{◌-◌, [], length, string_bytes}
 use Rattle.htag.specs.AtOnce.{IsQuietFront}
-use Rattle.htag.proofs.value.ValueWalk.read_quiet.Given as goal
+use Rattle.htag.proofs.piece.ValueWalk.read_quiet.Given as goal
 
 -- This many bytes have been read.
 abbrev pub invariant-loop-count : goal.invariant-loop-count

@@ -5,7 +5,7 @@ use Rattle.htext.proofs.Clean.{clean_rest}
 use Rattle.htag.specs.AtOnce.{IsQuietFront}
 use Rattle.htag.proofs.Ascii.{edge_of}
 use Rattle.htag.proofs.QuietValues.{more_read, nothing_read}
-use Rattle.htag.proofs.value.ValueWalk.read_quiet.Goals as goal
+use Rattle.htag.proofs.piece.ValueWalk.read_quiet.Goals as goal
 
 pub loop-count-init : goal.loop-count-init
 loop-count-init c = subst (IsQuietFront c.args.table.now c.args.run.now 0 []) (sym c.clear.ensures.bytes) (nothing_read c.args.table.now c.args.run.now [] c.utf8.run)
