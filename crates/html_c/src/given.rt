@@ -1,11 +1,11 @@
-//! The options of a call.
+//! The options of a call, and its lists.
 
 ghost use Rattle.std.specs.Prelude.{◌≡◌, MatchResult, Ok, Some};
+ghost use Rattle.html_c.specs.Table.{Flat, Json, ReadsTableBytes, table_form};
 ghost use Rattle.html_c.specs.Vocabulary.{ReadsQuirks, options_of, own_context, AllowsContext, bad_told, context_told, escaping_told, keys_told, may_be_in, task_told, GivesNothing, HasLists, HasSettings, IsCommand, IsSize, NoCommand, NoEscaping, Settings, Tells, Unmet};
 
 use crate::answer::Given;
 use crate::fault::CallFault;
-use crate::table::table_of;
 use charref::Table;
 use hmarkup::Quirks;
 use hmodes::Limits;
@@ -20,6 +20,9 @@ const SIZE: usize = 104;
 
 /// The most bytes that are fed at a time.
 const MOST_PIECE: u64 = 65_536;
+
+/// The first byte of a flat form. No JSON text begins with it; no bytes are the core table.
+const FLAT: u8 = 1;
 
 /// The task of a number.
 fn task_of(number: u32) -> Option<Task>
@@ -192,5 +195,38 @@ impl<'a> Given<'a> {
             keys: Keys::new(key),
             places,
         }
+    }
+}
+
+/// The table that these bytes say, for the look-ups of a text.
+pub(crate) fn table_of(alloc: Global, bytes: &[u8], text: &[u8]) -> Result<Table, CallFault>
+    ensures { ReadsTableBytes bytes.now result }
+{
+    match bytes.first() {
+        None => Ok(Table::core(alloc)?),
+        Some(&FLAT) => flat_table(alloc, bytes, text),
+        Some(_) => json_table(alloc, bytes),
+    }
+}
+
+/// The table of a flat form.
+fn flat_table(alloc: Global, bytes: &[u8], text: &[u8]) -> Result<Table, CallFault>
+    requires { table_form bytes.now ≡ Flat }
+    ensures { ReadsTableBytes bytes.now result }
+{
+    let table = Table::for_text(alloc, bytes, text)?;
+    // So no other table has this form.
+    let _form = table.as_flat();
+    Ok(table)
+}
+
+/// The table of a JSON text.
+fn json_table(alloc: Global, bytes: &[u8]) -> Result<Table, CallFault>
+    requires { table_form bytes.now ≡ Json }
+    ensures { ReadsTableBytes bytes.now result }
+{
+    match str::from_utf8(bytes) {
+        Ok(text) => Ok(Table::read(alloc, text)?),
+        Err(_) => Err(CallFault::NotText),
     }
 }

@@ -1,13 +1,13 @@
-//! A tree as rows of numbers and as the bytes of its words, which are counted, and written where there is room.
+//! A tree as rows of numbers and as the bytes of its words, which are counted, and written where there is room; and where its nodes came from.
 
 ghost use Rattle.std.specs.Prelude.{◌≡◌, ◌<◌, ◌≤◌, ◌⊎◌, true, length, flat_map, map, IfErr, MatchResult};
 ghost use Rattle.names.specs.Names.{text_of};
-ghost use Rattle.html_c.specs.Vocabulary.{Memory, PutsAt, greatest, mapped_attribute, what_of, ended_attribute, ended_word, link_to, parsed_rows, parsed_words, put_over, row_at, words_at};
+ghost use Rattle.html_c.specs.Vocabulary.{Memory, PutsAt, greatest, mapped_attribute, what_of, ended_attribute, ended_word, link_to, parsed_rows, parsed_words, put_over, row_at, words_at, children_of, parsed_origins, origin_at, origin_row, origins_of};
 
-use crate::answer::NodeRow;
+use crate::answer::{NodeRow, OriginRow};
 use crate::room::{put_at, put_one};
 use hnodes::{Attrs, NodeId, Tree};
-use hparse::Parsed;
+use hparse::{Origin, Parsed};
 use hserialize::NodeView;
 use names::{Names, Refusal};
 
@@ -61,7 +61,7 @@ fn put_words(tree: &Tree, names: &Names, node: NodeId, room: &mut [u8], at: usiz
 }
 
 /// The number of a link to a node, or to none.
-pub(crate) fn link_to(node: Option<NodeId>) -> u32
+fn link_to(node: Option<NodeId>) -> u32
     ensures { result ≡ link_to node }
 {
     match node {
@@ -138,6 +138,54 @@ impl Rows {
     {
         if fits {
             put_parsed(&self.parsed, rows, words);
+        }
+    }
+}
+
+/// How a node came to be, as a row.
+fn origin_row(origin: Origin) -> OriginRow
+    ensures { result ≡ origin_row origin }
+{
+    OriginRow {
+        at: origin.at,
+        in_source: u32::from(origin.in_source),
+        again_of: link_to(origin.again_of),
+    }
+}
+
+/// The row of a node, by a list of how the nodes came to be.
+fn origin_at(list: &[Origin], node: NodeId) -> OriginRow
+    ensures { result ≡ origin_at list.now node }
+{
+    match list.get(node.index()) {
+        Some(origin) => origin_row(*origin),
+        None => OriginRow {
+            at: 0,
+            in_source: 0,
+            again_of: u32::MAX,
+        },
+    }
+}
+
+/// Puts the rows of what was parsed at the beginning of a room, by such a list. Returns the place after them.
+fn put_listed(parsed: &Parsed, list: &[Origin], room: &mut [OriginRow]) -> usize
+    ensures { PutsAt 0 (origins_of list.now (children_of parsed.now.root parsed.now.tree.trees)) room.old room.new result }
+{
+    let mut at = 0;
+    for node in parsed.tree.descendants(parsed.root) {
+        at = put_one(origin_at(list, node), room, at);
+    }
+    at
+}
+
+/// Writes the rows of what was parsed to the beginning of a room, if the places were asked for, and the rows are to be written.
+pub(crate) fn put_origins(fits: bool, parsed: &Parsed, room: &mut [OriginRow])
+    requires { fits ≡ true → length (parsed_origins parsed.now) ≤ length room.old }
+    ensures { room.new ≡ put_over fits (parsed_origins parsed.now) room.old }
+{
+    if fits {
+        if let Some(list) = &parsed.places {
+            put_listed(parsed, list, room);
         }
     }
 }

@@ -3,7 +3,7 @@ use Rattle.html_c.specs.declared.fault.CallFault.TheVariants as fault
 use Rattle.html_c.specs.Table.{Json}
 use Rattle.html_c.proofs.Outcomes.{passed}
 use Rattle.html_c.proofs.Tables.{json_refused, table_is}
-use Rattle.html_c.proofs.table.json_table.Goals as goal
+use Rattle.html_c.proofs.given.json_table.Goals as goal
 
 pub returns-in_err-read-in-Ok : goal.returns-in_err-read-in-Ok
 returns-in_err-read-in-Ok c =

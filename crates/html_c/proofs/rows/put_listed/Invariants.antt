@@ -1,7 +1,7 @@
 use Rattle.html_c.proofs.Names.{◌≡◌, ◌++◌, PutsAt, children_of, map}
 use Rattle.hnodes.specs.Passed.{order}
 use Rattle.html_c.specs.Rows.{origin_at}
-use Rattle.html_c.proofs.origins.put_listed.Given as goal
+use Rattle.html_c.proofs.rows.put_listed.Given as goal
 
 abbrev pub invariant-loop-node : goal.invariant-loop-node
 invariant-loop-node l = record {

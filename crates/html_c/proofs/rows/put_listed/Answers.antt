@@ -1,7 +1,7 @@
 use Rattle.html_c.proofs.Names.{PutsAt, arith, children_of, common_steps, subst}
 use Rattle.html_c.proofs.Listing.{all_told}
 use Rattle.html_c.proofs.Puts.{both}
-use Rattle.html_c.proofs.origins.put_listed.Goals as goal
+use Rattle.html_c.proofs.rows.put_listed.Goals as goal
 
 pub loop-node-preserved : goal.loop-node-preserved
 loop-node-preserved c = record { rows = both c.loop-node.invariant.rows c.put_one-at.ensures (grind (arith, common_steps)); nodes = grind (arith, common_steps) }
