@@ -1,5 +1,5 @@
 -- What `clap` says of the program's command line.
-use Rattle.htmlp.proofs.Names.{◌≡◌, ◌⊎◌, inl, inr, refl, sym, ap, subst, ◌∙◌, List, [], ◌∷◌, false, Result, Ok, Err, MatchResult, Option, None, Some, option_map, codes, HasKind, Row, Text, app_of, fault_of, found_of, is_simple_and_free, rows_of, takes, Command, ArgMatches, fault_of_error, Numeric, SaysLine, bad_bytes_of, task_of, option_value, Fault, Line}
+use Rattle.htmlp.proofs.Names.{◌≡◌, ◌⊎◌, inl, inr, refl, sym, ap, subst, ◌∙◌, List, [], ◌∷◌, false, Bor, Result, Ok, Err, MatchResult, Option, None, Some, option_map, codes, HasKind, Row, Text, app_of, fault_of, found_of, is_simple_and_free, rows_of, takes, Command, ArgMatches, fault_of_error, Numeric, SaysLine, bad_bytes_of, task_of, option_value, Fault, Line}
 use Rattle.std.proofs.Common.{if◌then◌else◌, Bool, true, is_some, IfOk, IfErr, OnOk, option_and_then}
 use Rattle.std.specs.Prelude.{IsSome, find}
 use Rattle.std.specs.List.{list_all}
@@ -68,27 +68,34 @@ stop_named : (stop : Option (Text × List Text)) (p : Text × List Row) → ente
 stop_named None p is = absurd cc
 stop_named (Some at) p is = entered_named (built program).subs at p all_are_commands is
 
-module _ (command : Command) (m found : ArgMatches) (name : Text) (words : List Text) (is : app_of command ≡ program) (matches : HasMatchesOf (app_of command) words m)
-    (rows : Some (rows_of (found_of found)) ≡ option_map (λ p. p.1) (subcommand_rows_of m)) (names : Some name ≡ subcommand_name_of m) where
+abbrev entry_name : Bor Text × Bor ArgMatches → Text
+entry_name p = p.0.now
+
+abbrev entry_rows : Bor Text × Bor ArgMatches → List Row
+entry_rows p = rows_of (found_of p.1.now)
+
+-- the name of the subcommand that was found, and its matches
+module _ (command : Command) (m : ArgMatches) (its : Bor Text × Bor ArgMatches) (found : Option (Bor Text × Bor ArgMatches)) (words : List Text) (is : app_of command ≡ program) (matches : HasMatchesOf (app_of command) words m)
+    (some : found ≡ Some its) (rows : option_map entry_rows found ≡ option_map (λ p. p.1) (subcommand_rows_of m)) (names : option_map entry_name found ≡ subcommand_name_of m) where
   entered_is : subcommand_rows_of m ≡ subcommand_of program words
   entered_is = (matches (ap is_simple is ∙ program-simple)).1 ∙ ap (λ a. subcommand_of a words) is
 
-  name_and_rows : Some (name, rows_of (found_of found)) ≡ subcommand_of program words
-  name_and_rows = by (out-ArgMatches m).subcommand _ rows names ∙ entered_is where
-    by : {Z : Type 0} (o : Option Z) (f : Z → Text × List Row) → Some (rows_of (found_of found)) ≡ option_map (λ p. p.1) (option_map f o) → Some name ≡ option_map (λ z. (f z).0) o
-        → Some (name, rows_of (found_of found)) ≡ option_map f o
+  name_and_rows : Some (entry_name its, entry_rows its) ≡ subcommand_of program words
+  name_and_rows = by (out-ArgMatches m).subcommand _ (ap (option_map entry_rows) (sym some) ∙ rows) (ap (option_map entry_name) (sym some) ∙ names) ∙ entered_is where
+    by : {Z : Type 0} (o : Option Z) (f : Z → Text × List Row) → Some (entry_rows its) ≡ option_map (λ p. p.1) (option_map f o) → Some (entry_name its) ≡ option_map (λ z. (f z).0) o
+        → Some (entry_name its, entry_rows its) ≡ option_map f o
     by None f r n = absurd cc
-    by (Some z) f r n = let first : name ≡ (f z).0 = cc in let second : rows_of (found_of found) ≡ (f z).1 = cc in rw (first, second) refl
+    by (Some z) f r n = let first : entry_name its ≡ (f z).0 = cc in let second : entry_rows its ≡ (f z).1 = cc in rw (first, second) refl
 
-  pub names_a_task : IsSome (task_named name)
-  names_a_task = stop_named (stop_after (built program).top.rules (names_of (built program)) (argument_words program words)) (name, rows_of (found_of found)) (sym name_and_rows)
+  pub names_a_task : IsSome (task_named (entry_name its))
+  names_a_task = stop_named (stop_after (built program).top.rules (names_of (built program)) (argument_words program words)) (entry_name its, entry_rows its) (sym name_and_rows)
 
-  pub task_read : task_named name ≡ task_of words
-  task_read = ap (option_and_then (λ (p : Text × List Row). task_named p.0)) name_and_rows
-
-  -- a value that the matches of the subcommand have is that of the command that the words name
-  pub value_read : first_value (found_of found) ≡ option_value words
-  value_read = λ i. λ (id : Text). (first_value-rows (found_of found) id ∙ ap (option_and_then (λ (p : Text × List Row). first_of id p.1)) name_and_rows) i
+  -- the task that it names, and the values that its matches have, are those of the words
+  pub task_and_values : (task_named (entry_name its) ≡ task_of words) × (first_value (found_of its.1.now) ≡ option_value words)
+  task_and_values = (
+    ap (option_and_then (λ (p : Text × List Row). task_named p.0)) name_and_rows,
+    λ i. λ (id : Text). (first_value-rows (found_of its.1.now) id ∙ ap (option_and_then (λ (p : Text × List Row). first_of id p.1)) name_and_rows) i,
+  )
 
 -- ---- what the command says
 

@@ -128,14 +128,10 @@ fn answer_with<'a, R: Surroundings, S: Source, W: Target>(
         words input.old input.new output.old output.new result }
 {
     let limits = limits(line.nodes, line.open)?;
-    match check_context(line.command.context) {
+    let name = line.command.context;
+    match check_context(name) {
         Ok(()) => {}
-        Err(refusal) => {
-            return Err(Fault::Refused {
-                refusal,
-                name: line.command.context,
-            });
-        }
+        Err(refusal) => return Err(Fault::Refused { refusal, name }),
     }
     let options = Options {
         table,

@@ -1,7 +1,7 @@
 -- The words are read as `clap` says, and the values of the command are those of its matches.
-use Rattle.htmlp.proofs.Names.{ap, map, sym, subst, option_map, string_bytes, List, ◌∙◌, Bor, Text, fault_of, found_of, HasKind, Row, is_simple_and_free, rows_of, takes, ArgMatches, fault_of_error}
+use Rattle.htmlp.proofs.Names.{ap, map, sym, subst, string_bytes, ◌∙◌, fault_of, HasKind, is_simple_and_free, takes, fault_of_error}
 use Rattle.clap.proofs.TakesLemmas.{passed_up}
-use Rattle.htmlp.proofs.LineLemmas.{program-free, fault_of_kind, fault_of_error-memory, names_a_task, task_read, value_read, said, anyway, says_fault, no_fault}
+use Rattle.htmlp.proofs.LineLemmas.{program-free, fault_of_kind, fault_of_error-memory, names_a_task, task_and_values, said, anyway, says_fault, no_fault}
 use Rattle.htmlp.proofs.line.line.Goals as goal
 
 pub returns-in_err-matches-clause-fault : goal.returns-in_err-matches-clause-fault
@@ -17,25 +17,15 @@ returns-in_err-matches-clause-memory c =
     passed_up c.from_residual-in_err-matches.result (fault_of_error error) _ c.from_residual-in_err-matches.ensures.1
     (λ taken numbers. fault_of_error-memory error (c.in_err-matches.ensures.passes (ap (λ app. takes app (map string_bytes c.args.words.now)) c.in_ok-command_line.ensures ∙ taken)))
 
-abbrev entry_rows : Bor Text × Bor ArgMatches → List Row
-entry_rows p = rows_of (found_of p.1.now)
-
-abbrev entry_name : Bor Text × Bor ArgMatches → Text
-entry_name p = p.0.now
-
 pub said-line-requires : goal.said-line-requires
 said-line-requires c =
-    names_a_task c.in_ok-command_line.field-0 c.in_ok-matches.matches c.unwrap.result.1.now c.unwrap.result.0.now (map string_bytes c.args.words.now) c.in_ok-command_line.ensures
-    c.in_ok-matches.ensures.matches (ap (option_map entry_rows) (sym c.unwrap.ensures) ∙ c.subcommand.ensures.rows) (ap (option_map entry_name) (sym c.unwrap.ensures) ∙ c.subcommand.ensures.name)
+    names_a_task c.in_ok-command_line.field-0 c.in_ok-matches.matches c.unwrap.result c.subcommand.result (map string_bytes c.args.words.now) c.in_ok-command_line.ensures c.in_ok-matches.ensures.matches
+    c.unwrap.ensures c.subcommand.ensures.rows c.subcommand.ensures.name
 
 pub returns-clause-says : goal.returns-clause-says
 returns-clause-says c =
-    let rows = ap (option_map entry_rows) (sym c.unwrap.ensures) ∙ c.subcommand.ensures.rows in
-    let name = ap (option_map entry_name) (sym c.unwrap.ensures) ∙ c.subcommand.ensures.name in
-    let task = task_read c.in_ok-command_line.field-0 c.in_ok-matches.matches c.unwrap.result.1.now c.unwrap.result.0.now (map string_bytes c.args.words.now) c.in_ok-command_line.ensures
-    c.in_ok-matches.ensures.matches rows name in
-    let value = value_read c.in_ok-command_line.field-0 c.in_ok-matches.matches c.unwrap.result.1.now c.unwrap.result.0.now (map string_bytes c.args.words.now) c.in_ok-command_line.ensures
-    c.in_ok-matches.ensures.matches rows name in
+    let (task, value) = task_and_values c.in_ok-command_line.field-0 c.in_ok-matches.matches c.unwrap.result c.subcommand.result (map string_bytes c.args.words.now) c.in_ok-command_line.ensures c.in_ok-matches.ensures.matches
+    c.unwrap.ensures c.subcommand.ensures.rows c.subcommand.ensures.name in
     said c.said-line.result _ _ _ _ task value c.said-line.ensures.says
 
 pub returns-clause-taken : goal.returns-clause-taken
@@ -46,15 +36,12 @@ returns-clause-taken c =
 pub returns-clause-fault : goal.returns-clause-fault
 returns-clause-fault c =
     let is = c.in_ok-command_line.ensures in
-    let rows = ap (option_map entry_rows) (sym c.unwrap.ensures) ∙ c.subcommand.ensures.rows in
-    let name = ap (option_map entry_name) (sym c.unwrap.ensures) ∙ c.subcommand.ensures.name in
-    let value = value_read c.in_ok-command_line.field-0 c.in_ok-matches.matches c.unwrap.result.1.now c.unwrap.result.0.now (map string_bytes c.args.words.now) is c.in_ok-matches.ensures.matches rows name in
+    let (task, value) = task_and_values c.in_ok-command_line.field-0 c.in_ok-matches.matches c.unwrap.result c.subcommand.result (map string_bytes c.args.words.now) is c.in_ok-matches.ensures.matches
+    c.unwrap.ensures c.subcommand.ensures.rows c.subcommand.ensures.name in
     says_fault c.said-line.result (map string_bytes c.args.words.now) _ _ (ap (λ app. fault_of app (map string_bytes c.args.words.now)) (sym is) ∙ c.in_ok-matches.ensures.kinds (ap is_simple_and_free is ∙ program-free)) value c.said-line.ensures.says
 
 pub returns-clause-memory : goal.returns-clause-memory
 returns-clause-memory c =
-    let rows = ap (option_map entry_rows) (sym c.unwrap.ensures) ∙ c.subcommand.ensures.rows in
-    let name = ap (option_map entry_name) (sym c.unwrap.ensures) ∙ c.subcommand.ensures.name in
-    let value = value_read c.in_ok-command_line.field-0 c.in_ok-matches.matches c.unwrap.result.1.now c.unwrap.result.0.now (map string_bytes c.args.words.now) c.in_ok-command_line.ensures
-    c.in_ok-matches.ensures.matches rows name in
+    let (task, value) = task_and_values c.in_ok-command_line.field-0 c.in_ok-matches.matches c.unwrap.result c.subcommand.result (map string_bytes c.args.words.now) c.in_ok-command_line.ensures c.in_ok-matches.ensures.matches
+    c.unwrap.ensures c.subcommand.ensures.rows c.subcommand.ensures.name in
     no_fault c.said-line.result (map string_bytes c.args.words.now) _ _ value c.said-line.ensures.says
