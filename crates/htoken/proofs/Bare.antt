@@ -1,7 +1,6 @@
 -- An `&` that is text, and a whole reference, as a run shows them.
 use Rattle.htoken.proofs.Names.{◌≡◌, ◌≤◌, ◌<◌, ℕ, zero, suc, ◌+◌, ◌-◌, Bool, true, false, eqb, ◌&&◌, ◌||◌, List, [], ◌∷◌, ◌++◌, map, length, take, drop, reverse, sym, refl, ap, ◌∙◌, subst, arith, append_assoc, append-nil, Result, Ok, Err, slice_index, list_all, prefix_len, is_ascii, chars, IsUtf8, and_from, nat_tests, get_or-drop, length-append, length-drop, length-take-le, take-append-drop, take_all, take_at, drop_at, prefix_len-le-length, prefix_len_stops, UnknownNamedCharacterReference, ParseError, Placed, RawKind, Refusal, Texts, all, begins, past, is_alphanumeric, placed, error_if, Reference, IsRead, errors_of, characters_of, Entities, Piece, IsReference, IsTable, alone, ampersand, is_text_byte, IsCut, list_all-append, all_placed, Tokenizer, all_at, bare_errors, first_placed, IsBare, IsFront, IsWhole, known_errors, piece_events, HandsEvents, has_references, Standing, run_events, Item, Event, Gives, Reports, Char, after_place, later_errors, after_last, Reads, Stands, Takes, take_sink_refused, backwards, reverse-append, get_or-append_seam, counted, take_more, and_parts, all-characters, characters_placed, IsTakenFront, placed_more}
 use Rattle.htoken.specs.declared.state.State.TheVariants as state
-use Rattle.htoken.proofs.AfterRun.{later_same}
 use Rattle.htag.proofs.Ascii.{ascii_chars, ascii_placed, ascii_taken}
 use Rattle.htag.proofs.QuietValues.{length-placed}
 use Rattle.htoken.proofs.Fronts.{takes_both}
@@ -9,7 +8,7 @@ use Rattle.htoken.proofs.Going.{after_last-snoc}
 use Rattle.htoken.proofs.InReference.{no_script}
 use Rattle.htoken.proofs.InRun.{next_ascii}
 use Rattle.htoken.proofs.InText.{text_events, all_ascii, length_left, unknown_is, begun_taken, begun_left, begun_cut, begun_text, begun_first, front_reads, run_front, all_taken}
-use Rattle.htoken.proofs.Pending.{later_told}
+use Rattle.htoken.proofs.Pending.{later_told, later_same}
 use Rattle.htoken.proofs.Referring.{run_errors, stands_piece}
 
 -- its error: none where no letter or digit is after it

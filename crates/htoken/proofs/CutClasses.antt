@@ -1,5 +1,5 @@
 -- The classes of texts, by their first characters. Each production of data is at the front of one class.
-use Rattle.htoken.proofs.CutNames.{arith, nat_tests, ◌≡◌, ℕ, Bool, true, false, not, ◌||◌, eqb, List, [], ◌∷◌, ◌++◌, sym, refl, ap, ◌∙◌, subst, codes, eqb-true, false≢true, to_ascii_lowercase, Placed, characters, lowered, begins, spells, spells_in_any_case, is_letter, is_greater, and_parts, and_both, first_is, is_cdata, is_declaration}
+use Rattle.htoken.proofs.Names.{arith, nat_tests, ◌≡◌, ℕ, Bool, true, false, not, ◌||◌, eqb, List, [], ◌∷◌, ◌++◌, sym, refl, ap, ◌∙◌, subst, codes, eqb-true, false≢true, to_ascii_lowercase, Placed, characters, lowered, begins, spells, spells_in_any_case, is_letter, is_greater, and_parts, and_both, first_is, is_cdata, is_declaration}
 use Rattle.htoken.specs.Data.{is_no_markup}
 use Rattle.htoken.proofs.OneTag.{Side, Opens, Ends, mark_of}
 use Rattle.htoken.proofs.OneValue.{lower_is}

@@ -1,5 +1,5 @@
 -- What a tokenizer holds back is a beginning of a span.
-use Rattle.htoken.proofs.CutNames.{arith, nat_tests, ◌≡◌, ℕ, true, false, List, [], ◌∷◌, ◌++◌, sym, refl, ap, ◌∙◌, subst, append_assoc, append-nil, IncorrectlyOpenedComment, ParseError, Placed, RawKind, Texts, characters, lowered, all, begins, is_letter, is_empty, place, stops, error, name_bytes, Entities, IsTable, CommentKind, IsBogus, closed_bogus, IsDoctype, parts_text, attributes_after, ends_name, tag_errors, end_tag_errors, Tok, Span, Event, Start, End, Comment, piece_span, is_declaration, comment_span, may_end, is_raw_end, has_references, raw_end, IsTag, start_tag, end_tag, inside, CanEnd}
+use Rattle.htoken.proofs.Names.{arith, nat_tests, ◌≡◌, ℕ, true, false, List, [], ◌∷◌, ◌++◌, sym, refl, ap, ◌∙◌, subst, append_assoc, append-nil, IncorrectlyOpenedComment, ParseError, Placed, RawKind, Texts, characters, lowered, all, begins, is_letter, is_empty, place, stops, error, name_bytes, Entities, IsTable, CommentKind, IsBogus, closed_bogus, IsDoctype, parts_text, attributes_after, ends_name, tag_errors, end_tag_errors, Tok, Span, Event, Start, End, Comment, piece_span, is_declaration, comment_span, may_end, is_raw_end, has_references, raw_end, IsTag, start_tag, end_tag, inside, CanEnd}
 use Rattle.std.specs.Prelude.{map, Some}
 use Rattle.std.specs.String.{string_bytes}
 use Rattle.std.specs.List.{list_all}

@@ -1,5 +1,5 @@
 -- The text at the front of a run, and what ends it.
-use Rattle.htoken.proofs.Names.{◌≡◌, ◌≤◌, ◌<◌, ℕ, zero, suc, ◌+◌, true, false, eqb, ◌||◌, List, [], ◌∷◌, ◌++◌, map, length, take, drop, sym, refl, ap, ◌∙◌, subst, arith, Result, Ok, Err, Option, append_assoc, append-nil, and_from, drop-length, length-append, length-take-le, take_all, take_at, drop_at, nat_tests, chars-IsAscii, chars-nil, list_all, prefix_len, is_ascii, len_utf8, chars, IsUtf8, string_bytes, UnknownNamedCharacterReference, ParseError, Placed, RawKind, Refusal, Texts, all, begins, past, is_alphanumeric, placed, error_if, is_clean, is_plain_character, is_text_byte, IsCut, all_placed, cut_more, placed_cut, placed_more, Entities, Piece, IsReference, named, kept, unknown, decimal, hexadecimal, no_digits, alone, ampersand, backwards, Script, TextWithReferences, Tokenizer, bare_errors, first_placed, IsBare, IsFront, RefusesFront, with_references_ran_out, with_references_refused, Tok, Span, Item, Event, Gives, Reports, Char, piece_span, HandsEvents, is_script, run_events, FollowsAll, has_references, Standing, next, tokens_in, errors_in, eof_of, AreFront, Stands, Reads, holds, Takes, take_ran_out, take_took, take_sink_refused, IsLast, IsBetween, after_last, text_front, chars_cut, has_characters, events_with_references, IsTakenFront, length-drop, all_weaker, map-append, drop-drop, Hands, gives_item, run_tokens, Handed, len_utf8_ascii, and_parts}
+use Rattle.htoken.proofs.Names.{◌≡◌, ◌≤◌, ◌<◌, ℕ, zero, suc, ◌+◌, true, false, eqb, ◌||◌, List, [], ◌∷◌, ◌++◌, map, length, take, drop, sym, refl, ap, ◌∙◌, subst, arith, Result, Ok, Err, Option, append_assoc, append-nil, and_from, drop-length, length-append, length-take-le, take_all, take_at, drop_at, nat_tests, chars-IsAscii, chars-nil, list_all, prefix_len, is_ascii, len_utf8, chars, IsUtf8, string_bytes, UnknownNamedCharacterReference, ParseError, Placed, RawKind, Refusal, Texts, all, begins, past, is_alphanumeric, placed, error_if, is_clean, is_plain_character, is_text_byte, IsCut, all_placed, cut_more, placed_cut, placed_more, Entities, Piece, IsReference, named, kept, unknown, decimal, hexadecimal, no_digits, alone, ampersand, backwards, Script, TextWithReferences, Tokenizer, bare_errors, first_placed, IsBare, IsFront, Memory, Tok, Span, Item, Event, Gives, Reports, Char, piece_span, HandsEvents, is_script, run_events, FollowsAll, has_references, Standing, next, tokens_in, errors_in, eof_of, AreFront, Stands, Reads, holds, Takes, take_ran_out, take_took, take_sink_refused, IsLast, IsBetween, after_last, text_front, chars_cut, has_characters, events_with_references, IsTakenFront, length-drop, all_weaker, map-append, drop-drop, Hands, gives_item, run_tokens, Handed, len_utf8_ascii, and_parts}
 use Rattle.htoken.specs.declared.state.State.TheVariants as state
 use Rattle.htag.proofs.Ascii.{ascii_chars, each_ascii, ascii_cut}
 use Rattle.htoken.proofs.Fronts.{takes_both}
@@ -406,13 +406,11 @@ module _ {S : Type 0} (gives : S → Item → Result (Unit {0}) Refusal → S �
         reads = λ next next_then place. on_reads new next then next_then place;
       }
 
-      with_references_not : (e : Refusal) (s : S) (last : Tokenizer) → HandsEvents gives names mid (events_with_references given errors) (Err e) s → Takes gives table start text (placed at (chars run)) taken names old (Err e) s last
+      pub with_references_not : (e : Refusal) (s : S) (last : Tokenizer) → HandsEvents gives names mid (events_with_references given errors) (Err e) s → Takes gives table start text (placed at (chars run)) taken names old (Err e) s last
       with_references_not e s last handed =
           let next : Tokenizer = record t { next = after_last ((text ++ placed at (chars (take (count + size) run))) ++ first_placed (at + (count + size)) (drop (count + size) run)) } in
           take_sink_refused e all_events refl (HandsEvents-append gives names old mid s front.events (events_with_references given errors) (Err e) front.handed handed)
           (run_front table start next names text run at (count + size) (taken ++ all_events) (cut_more count size run cut more.cut) (on_reads t next refl refl refl))
 
-    pub with_references_fails : (e : Refusal) (s : S) (last : Tokenizer) → RefusesFront gives names t.table.now t.kind (drop count run) (at + count) mid e s → Takes gives table start text (placed at (chars run)) taken names old (Err e) s last
-    with_references_fails e s last (with_references_ran_out is same) =
-        take_ran_out front.events (ap (λ (x : Refusal). Err x) is) (subst (HandsEvents gives names old front.events (Ok tt)) (sym same) front.handed) (run_front table start there names text run at count (taken ++ front.events) cut here_reads)
-    with_references_fails e s last (with_references_refused size f) = with_references_not size f.errors f.given f.front e s last f.handed
+    pub with_references_out : (e : Refusal) (last : Tokenizer) → e ≡ Memory → Takes gives table start text (placed at (chars run)) taken names old (Err e) mid last
+    with_references_out e last is = take_ran_out front.events (ap (λ (x : Refusal). Err x) is) front.handed (run_front table start there names text run at count (taken ++ front.events) cut here_reads)

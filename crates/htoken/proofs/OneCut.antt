@@ -1,5 +1,5 @@
 -- A text is cut into spans in one way.
-use Rattle.htoken.proofs.CutNames.{◌≡◌, ℕ, Bool, true, false, List, [], ◌∷◌, ◌++◌, Some, sym, refl, ap, ◌∙◌, subst, append_assoc, append-nil, false≢true, is_some, ParseError, Placed, RefusedName, refused_name, tag_named, neither, or_none, Entities, Tok, Start, Eof, Span, Standing, at_start, next, standing_after, end_errors, IsSpan, spans_text, Cut, tokens_of, span_errors, is_refused_tag, has_refused, IsOut}
+use Rattle.htoken.proofs.Names.{◌≡◌, ℕ, Bool, true, false, List, [], ◌∷◌, ◌++◌, Some, sym, refl, ap, ◌∙◌, subst, append_assoc, append-nil, false≢true, is_some, ParseError, Placed, RefusedName, refused_name, tag_named, neither, or_none, Entities, Tok, Start, Eof, Span, Standing, at_start, next, standing_after, end_errors, IsSpan, spans_text, Cut, tokens_of, span_errors, is_refused_tag, has_refused, IsOut}
 use Rattle.hmarkup.proofs.Marks.{or_left}
 use Rattle.htoken.specs.OneCut.{OneCut, OneListOfTokens, NoTokensOfRefused, OneRefusal}
 use Rattle.htoken.proofs.OneSpan.{one_span, some_span}

@@ -1,5 +1,5 @@
 -- One span of data at most is at the front of a text.
-use Rattle.htoken.proofs.CutNames.{◌≡◌, ℕ, false, eqb, List, [], ◌∷◌, ◌++◌, length, sym, refl, ap, ◌∙◌, subst, codes, append_assoc, length-map, to_ascii_lowercase, ParseError, IncorrectlyOpenedComment, Placed, characters, lowered, place, is_letter, error, CommentKind, IsDoctype, same_front, Entities, Piece, IsReference, Span, piece_span, parts_text, IsTag, IsDataSpan, comment_span, character, reference, less_than_last, less_than_solidus_last, less_than, nothing, tag, comment, bogus_end_tag, bogus_question, bogus_cdata, bogus_declaration, doctype}
+use Rattle.htoken.proofs.Names.{◌≡◌, ℕ, false, eqb, List, [], ◌∷◌, ◌++◌, length, sym, refl, ap, ◌∙◌, subst, codes, append_assoc, length-map, to_ascii_lowercase, ParseError, IncorrectlyOpenedComment, Placed, characters, lowered, place, is_letter, error, CommentKind, IsDoctype, same_front, Entities, Piece, IsReference, Span, piece_span, parts_text, IsTag, IsDataSpan, comment_span, character, reference, less_than_last, less_than_solidus_last, less_than, nothing, tag, comment, bogus_end_tag, bogus_question, bogus_cdata, bogus_declaration, doctype}
 use Rattle.names.specs.declared.error.ErrorCode.{ErrorCode}
 use Rattle.names.specs.declared.error.ErrorCode.TheVariants.{CdataInHtmlContent, EofBeforeTagName, InvalidFirstCharacterOfTagName, MissingEndTagName, UnexpectedQuestionMarkInsteadOfTagName}
 use Rattle.hmarkup.specs.declared.comment.CommentKind.TheVariants as comments

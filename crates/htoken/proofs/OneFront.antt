@@ -1,5 +1,5 @@
 -- Exactly one cut, and what a front of it gives.
-use Rattle.htoken.proofs.CutNames.{◌≡◌, ℕ, List, [], ◌∷◌, ◌++◌, sym, refl, ap, ◌∙◌, append_assoc, append-nil, flat_map-append, Placed, Entities, Tok, Eof, Span, Standing, at_start, standing_after, spans_text, Cut, tokens_of, tokens_in}
+use Rattle.htoken.proofs.Names.{◌≡◌, ℕ, List, [], ◌∷◌, ◌++◌, sym, refl, ap, ◌∙◌, append_assoc, append-nil, flat_map-append, Placed, Entities, Tok, Eof, Span, Standing, at_start, standing_after, spans_text, Cut, tokens_of, tokens_in}
 use Rattle.htoken.specs.Tokens.{eof_of}
 use Rattle.htoken.specs.SomeCut.{ExactlyOneCut, OneFront, OneFrontOfRefused}
 use Rattle.htoken.proofs.OneSpan.{some_span}

@@ -1,5 +1,5 @@
 -- One part of a tag at most is at the front of the text after its name.
-use Rattle.htoken.proofs.CutNames.{arith, inl, inr, nat_tests, ◌≡◌, ℕ, Bool, true, false, not, ◌&&◌, ◌||◌, ◌==◌, eqb, if◌then◌else◌, List, [], ◌∷◌, ◌++◌, drop, None, sym, refl, ap, ◌∙◌, subst, codes, append_assoc, append-nil, false≢true, eqb-true, ParseError, MissingAttributeValue, Placed, characters, place, begins, stops, all, RunsTo, past, is_empty, is_space, is_equals, is_greater, is_quote, and_parts, and_both, eqb_self, first_is, Entities, Piece, AreValue, pieces_text, value_bytes, Part, IsPart, IsAttributeName, ends_name, ends_attribute_name, ends_unquoted, is_sign, value_errors, unquoted_errors, attribute_part, space, solidus, bare, no_value, unquoted, quoted, unclosed}
+use Rattle.htoken.proofs.Names.{arith, inl, inr, nat_tests, ◌≡◌, ℕ, Bool, true, false, not, ◌&&◌, ◌||◌, ◌==◌, eqb, if◌then◌else◌, List, [], ◌∷◌, ◌++◌, drop, None, sym, refl, ap, ◌∙◌, subst, codes, append_assoc, append-nil, false≢true, eqb-true, ParseError, MissingAttributeValue, Placed, characters, place, begins, stops, all, RunsTo, past, is_empty, is_space, is_equals, is_greater, is_quote, and_parts, and_both, eqb_self, first_is, Entities, Piece, AreValue, pieces_text, value_bytes, Part, IsPart, IsAttributeName, ends_name, ends_attribute_name, ends_unquoted, is_sign, value_errors, unquoted_errors, attribute_part, space, solidus, bare, no_value, unquoted, quoted, unclosed}
 use Rattle.std.proofs.Common.{◌⊎◌}
 use Rattle.names.specs.declared.error.ErrorCode.TheVariants.{MissingWhitespaceBetweenAttributes, UnexpectedSolidusInTag}
 use Rattle.names.specs.Placed.{error_if}

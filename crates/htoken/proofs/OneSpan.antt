@@ -1,5 +1,5 @@
 -- One span of raw text at most is at the front of a text, and one span of each kind.
-use Rattle.htoken.proofs.CutNames.{◌≡◌, ℕ, Bool, true, false, ◌&&◌, eqb, List, [], ◌∷◌, ◌++◌, Option, Some, None, sym, refl, ap, ◌∙◌, false≢true, eqb-true, not_second, Placed, RawKind, begins, spells, and_parts, Entities, Piece, IsReference, Span, piece_span, Standing, plain_piece, is_end_tag_of, is_raw_end, may_end, tag, IsRawSpan, IsSpanOf, IsSpan, has_references, raw_character, raw_reference, raw_end, one_of}
+use Rattle.htoken.proofs.Names.{◌≡◌, ℕ, Bool, true, false, ◌&&◌, eqb, List, [], ◌∷◌, ◌++◌, Option, Some, None, sym, refl, ap, ◌∙◌, false≢true, eqb-true, not_second, Placed, RawKind, begins, spells, and_parts, Entities, Piece, IsReference, Span, piece_span, Standing, plain_piece, is_end_tag_of, is_raw_end, may_end, tag, IsRawSpan, IsSpanOf, IsSpan, has_references, raw_character, raw_reference, raw_end, one_of}
 use Rattle.names.specs.declared.raw.RawKind.TheVariants as kind
 use Rattle.htoken.proofs.Words.{heads, tails, begins_more}
 use Rattle.htoken.proofs.OneValue.{is_amp, at_amp, no_reference}

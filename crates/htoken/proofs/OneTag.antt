@@ -1,5 +1,5 @@
 -- One tag at most is at the front of a text.
-use Rattle.htoken.proofs.CutNames.{◌≡◌, inl, inr, ℕ, Bool, true, false, not, eqb, List, [], ◌∷◌, ◌++◌, sym, refl, ap, ◌∙◌, subst, codes, append_assoc, false≢true, Placed, characters, place, error, name_bytes, first_is, Entities, Span, Start, End, Part, IsPart, AreParts, parts_text, IsTagFront, tag_close, tag_errors, end_tag_errors, attributes_after, ends_name, IsTag, start_tag, end_tag, unfinished}
+use Rattle.htoken.proofs.Names.{◌≡◌, inl, inr, ℕ, Bool, true, false, not, eqb, List, [], ◌∷◌, ◌++◌, sym, refl, ap, ◌∙◌, subst, codes, append_assoc, false≢true, Placed, characters, place, error, name_bytes, first_is, Entities, Span, Start, End, Part, IsPart, AreParts, parts_text, IsTagFront, tag_close, tag_errors, end_tag_errors, attributes_after, ends_name, IsTag, start_tag, end_tag, unfinished}
 use Rattle.names.specs.declared.error.ErrorCode.TheVariants.{EofInTag}
 use Rattle.htoken.proofs.Words.{heads, same_mark, one_run, goes_no_further}
 use Rattle.htoken.proofs.OnePart.{one_part, none_at_end, none_at_greater, none_at_close}

@@ -1,5 +1,5 @@
 -- A value is cut into pieces in one way.
-use Rattle.htoken.proofs.CutNames.{arith, ◌≡◌, ℕ, Bool, true, false, eqb, nat_lt, List, [], ◌∷◌, ◌++◌, sym, refl, ap, ◌∙◌, subst, codes, false≢true, nat_tests, to_ascii_lowercase, Placed, characters, lowered, begins, Entities, Piece, IsReference, IsValuePiece, plain, plain_piece, pieces_text, AreValue, one_of}
+use Rattle.htoken.proofs.Names.{arith, ◌≡◌, ℕ, Bool, true, false, eqb, nat_lt, List, [], ◌∷◌, ◌++◌, sym, refl, ap, ◌∙◌, subst, codes, false≢true, nat_tests, to_ascii_lowercase, Placed, characters, lowered, begins, Entities, Piece, IsReference, IsValuePiece, plain, plain_piece, pieces_text, AreValue, one_of}
 use Rattle.charref.specs.Reference.{named, kept, unknown, decimal, hexadecimal, no_digits, alone}
 use Rattle.htag.specs.Value.{reference}
 use Rattle.htoken.proofs.Words.{heads, tails, begins_more}

@@ -1,5 +1,5 @@
 -- The spans at the front of a text that are there whatever follows are among those that a tokenizer has handed over.
-use Rattle.htoken.proofs.CutNames.{◌≡◌, ℕ, false, List, [], ◌∷◌, ◌++◌, length, sym, ap, ◌∙◌, subst, append_assoc, append-nil, arith, length-append, false≢true, flat_map-append, Placed, RawKind, is_empty, Entities, Span, Event, Standing, at_start, IsSpan, spans_text, tokens_of, has_refused, tokens_in, inside}
+use Rattle.htoken.proofs.Names.{◌≡◌, ℕ, false, List, [], ◌∷◌, ◌++◌, length, sym, ap, ◌∙◌, subst, append_assoc, append-nil, arith, length-append, false≢true, flat_map-append, Placed, RawKind, is_empty, Entities, Span, Event, Standing, at_start, IsSpan, spans_text, tokens_of, has_refused, tokens_in, inside}
 use Rattle.htoken.specs.HeldFrom.{IsCutAt}
 use Rattle.htoken.specs.Beginning.{nothing}
 use Rattle.htoken.specs.Held.{HoldsBeginning}

@@ -1,5 +1,5 @@
 -- What tokens a span gives: one start tag, whose name begins with a letter, or none that is refused.
-use Rattle.htoken.proofs.CutNames.{arith, ◌≡◌, ℕ, Bool, true, false, List, [], ◌∷◌, ◌++◌, sym, refl, ap, ◌∙◌, subst, false≢true, nat_tests, to_ascii_lowercase, Placed, RawKind, begins, is_letter, name_bytes, Entities, Piece, Tok, Start, Span, piece_span, Standing, IsTag, start_tag, end_tag, unfinished, IsDataSpan, character, reference, less_than_last, less_than_solidus_last, less_than, nothing, tag, comment, bogus_end_tag, bogus_question, bogus_cdata, bogus_declaration, doctype, IsRawSpan, IsSpanOf, IsSpan, raw_character, raw_reference, raw_end, has_refused, IsLastName}
+use Rattle.htoken.proofs.Names.{arith, ◌≡◌, ℕ, Bool, true, false, List, [], ◌∷◌, ◌++◌, sym, refl, ap, ◌∙◌, subst, false≢true, nat_tests, to_ascii_lowercase, Placed, RawKind, begins, is_letter, name_bytes, Entities, Piece, Tok, Start, Span, piece_span, Standing, IsTag, start_tag, end_tag, unfinished, IsDataSpan, character, reference, less_than_last, less_than_solidus_last, less_than, nothing, tag, comment, bogus_end_tag, bogus_question, bogus_cdata, bogus_declaration, doctype, IsRawSpan, IsSpanOf, IsSpan, raw_character, raw_reference, raw_end, has_refused, IsLastName}
 use Rattle.std.proofs.Common.{◌<◌, map}
 use Rattle.std.proofs.lemmas.Str.{encode_ascii}
 use Rattle.std.specs.Prelude.{encode_utf8_all}

@@ -1,5 +1,5 @@
 -- Each text is cut, and has an answer.
-use Rattle.htoken.proofs.CutNames.{arith, ◌≡◌, ℕ, zero, suc, ◌≤◌, Bool, true, false, ◌&&◌, ◌||◌, eqb, List, [], ◌∷◌, ◌++◌, length, Option, Some, None, sym, refl, ap, ◌∙◌, subst, append_assoc, append-nil, false≢true, eqb-true, nat_tests, is_some, Placed, RawKind, RefusedName, is_letter, refused_name, tag_named, and_parts, or_none, Entities, IsTable, Tok, Eof, Span, Standing, at_start, next, standing_after, is_end_tag_of, is_raw_end, may_end, end_errors, IsRawSpan, IsSpanOf, IsSpan, has_references, raw_character, raw_reference, raw_end, spans_text, Cut, tokens_of, span_errors, has_refused, IsOut, HasTag, IsLastName, some_of}
+use Rattle.htoken.proofs.Names.{arith, ◌≡◌, ℕ, zero, suc, ◌≤◌, Bool, true, false, ◌&&◌, ◌||◌, eqb, List, [], ◌∷◌, ◌++◌, length, Option, Some, None, sym, refl, ap, ◌∙◌, subst, append_assoc, append-nil, false≢true, eqb-true, nat_tests, is_some, Placed, RawKind, RefusedName, is_letter, refused_name, tag_named, and_parts, or_none, Entities, IsTable, Tok, Eof, Span, Standing, at_start, next, standing_after, is_end_tag_of, is_raw_end, may_end, end_errors, IsRawSpan, IsSpanOf, IsSpan, has_references, raw_character, raw_reference, raw_end, spans_text, Cut, tokens_of, span_errors, has_refused, IsOut, HasTag, IsLastName, some_of}
 use Rattle.names.proofs.Words.{or_second}
 use Rattle.names.specs.declared.raw.RawKind.TheVariants as kind
 use Rattle.htoken.specs.SomeCut.{HasCut, HasAnswer, gives, refuses, SomeSpan, SomeCut, SomeAnswer}

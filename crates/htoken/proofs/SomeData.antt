@@ -1,5 +1,5 @@
 -- A span of data is at the front of each text but the empty one.
-use Rattle.htoken.proofs.CutNames.{nat_tests, arith, ◌≡◌, ℕ, ◌≤◌, Bool, true, false, not, ◌&&◌, ◌||◌, eqb, List, [], ◌∷◌, ◌++◌, length, sym, refl, ap, ◌∙◌, subst, codes, append_assoc, append-nil, false≢true, eqb-true, to_ascii_lowercase, ParseError, Placed, characters, lowered, begins, spells, spells_in_any_case, is_letter, is_greater, IsBogus, closed_bogus, and_parts, or_none, Entities, IsTable, Span, IsDataSpan, character, reference, less_than_last, less_than_solidus_last, less_than, nothing, tag, comment, bogus_end_tag, bogus_question, bogus_cdata, bogus_declaration, doctype, is_cdata, is_declaration, some_of}
+use Rattle.htoken.proofs.Names.{nat_tests, arith, ◌≡◌, ℕ, ◌≤◌, Bool, true, false, not, ◌&&◌, ◌||◌, eqb, List, [], ◌∷◌, ◌++◌, length, sym, refl, ap, ◌∙◌, subst, codes, append_assoc, append-nil, false≢true, eqb-true, to_ascii_lowercase, ParseError, Placed, characters, lowered, begins, spells, spells_in_any_case, is_letter, is_greater, IsBogus, closed_bogus, and_parts, or_none, Entities, IsTable, Span, IsDataSpan, character, reference, less_than_last, less_than_solidus_last, less_than, nothing, tag, comment, bogus_end_tag, bogus_question, bogus_cdata, bogus_declaration, doctype, is_cdata, is_declaration, some_of}
 use Rattle.hmarkup.specs.declared.comment.CommentKind.TheVariants as comments
 use Rattle.hmarkup.specs.Comment.{unclosed_bogus}
 use Rattle.hmarkup.proofs.SomeSpan.{some_span, some_doctype}

@@ -1,5 +1,5 @@
 -- What has been read of a tag can be completed.
-use Rattle.htoken.proofs.CutNames.{◌≡◌, ℕ, Bool, true, false, not, ◌||◌, eqb, List, [], ◌∷◌, ◌++◌, sym, refl, ap, ◌∙◌, subst, append_assoc, append-nil, MissingAttributeValue, ParseError, Placed, Texts, characters, begins, stops, all, is_empty, is_space, is_quote, error, Entities, IsTable, pieces_text, value_bytes, Part, IsPart, AreParts, parts_text, IsAttributeName, ends_name, ends_attribute_name, ends_unquoted, is_sign, attribute_part, value_errors, unquoted_errors, tag_close, CanEnd}
+use Rattle.htoken.proofs.Names.{◌≡◌, ℕ, Bool, true, false, not, ◌||◌, eqb, List, [], ◌∷◌, ◌++◌, sym, refl, ap, ◌∙◌, subst, append_assoc, append-nil, MissingAttributeValue, ParseError, Placed, Texts, characters, begins, stops, all, is_empty, is_space, is_quote, error, Entities, IsTable, pieces_text, value_bytes, Part, IsPart, AreParts, parts_text, IsAttributeName, ends_name, ends_attribute_name, ends_unquoted, is_sign, attribute_part, value_errors, unquoted_errors, tag_close, CanEnd}
 use Rattle.htag.specs.declared.tag_state.TagState.{TagState}
 use Rattle.htag.specs.declared.tag_state.TagState.TheVariants as phase
 use Rattle.htag.specs.declared.walk.TagWalk.{TagWalk}

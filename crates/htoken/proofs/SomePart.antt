@@ -1,5 +1,5 @@
 -- A part of a tag is at the front of each text where a tag does not end.
-use Rattle.htoken.proofs.CutNames.{nat_tests, arith, ◌≡◌, ℕ, zero, suc, ◌≤◌, Bool, true, false, not, ◌&&◌, ◌||◌, ◌==◌, eqb, if◌then◌else◌, List, [], ◌∷◌, ◌++◌, length, drop, sym, refl, ap, ◌∙◌, subst, append_assoc, append-nil, length-append, false≢true, eqb-true, not_second, Placed, begins, stops, all, RunsTo, past, is_space, is_equals, is_greater, is_quote, and_both, or_none, Entities, Piece, IsTable, IsValuePiece, plain, plain_piece, AreValue, pieces_text, Part, IsPart, AreParts, parts_text, IsAttributeName, ends_name, ends_attribute_name, ends_unquoted, is_sign, space, solidus, bare, no_value, unquoted, quoted, unclosed, some_of}
+use Rattle.htoken.proofs.Names.{nat_tests, arith, ◌≡◌, ℕ, zero, suc, ◌≤◌, Bool, true, false, not, ◌&&◌, ◌||◌, ◌==◌, eqb, if◌then◌else◌, List, [], ◌∷◌, ◌++◌, length, drop, sym, refl, ap, ◌∙◌, subst, append_assoc, append-nil, length-append, false≢true, eqb-true, not_second, Placed, begins, stops, all, RunsTo, past, is_space, is_equals, is_greater, is_quote, and_both, or_none, Entities, Piece, IsTable, IsValuePiece, plain, plain_piece, AreValue, pieces_text, Part, IsPart, AreParts, parts_text, IsAttributeName, ends_name, ends_attribute_name, ends_unquoted, is_sign, space, solidus, bare, no_value, unquoted, quoted, unclosed, some_of}
 use Rattle.std.proofs.lemmas.Bool.{or_parts, not-true}
 use Rattle.hmarkup.proofs.Endings.{not_either}
 use Rattle.htag.specs.Value.{reference}

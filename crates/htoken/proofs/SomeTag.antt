@@ -1,5 +1,5 @@
 -- A tag is at each `<` or `</` before a letter.
-use Rattle.htoken.proofs.CutNames.{arith, ◌≡◌, inl, inr, ℕ, ◌≤◌, Bool, true, false, not, ◌&&◌, ◌||◌, eqb, List, [], ◌∷◌, ◌++◌, length, sym, refl, ap, ◌∙◌, subst, codes, length-append, false≢true, eqb-true, Placed, characters, begins, stops, all, is_letter, is_greater, and_parts, and_both, Entities, IsTable, Span, Part, parts_text, IsTagFront, ends_name, IsTag, start_tag, end_tag, unfinished, HasTag}
+use Rattle.htoken.proofs.Names.{arith, ◌≡◌, inl, inr, ℕ, ◌≤◌, Bool, true, false, not, ◌&&◌, ◌||◌, eqb, List, [], ◌∷◌, ◌++◌, length, sym, refl, ap, ◌∙◌, subst, codes, length-append, false≢true, eqb-true, Placed, characters, begins, stops, all, is_letter, is_greater, and_parts, and_both, Entities, IsTable, Span, Part, parts_text, IsTagFront, ends_name, IsTag, start_tag, end_tag, unfinished, HasTag}
 use Rattle.htoken.proofs.RawEnds.{letter_stays}
 use Rattle.htoken.proofs.OneTag.{Side, Opens, Ends, mark_of, tag_span, cut_span, tag_text, IsEnding, closed, cut_off, tag_whole}
 use Rattle.htoken.proofs.SomePart.{split, some_parts, is_stop}

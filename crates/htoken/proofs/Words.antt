@@ -1,5 +1,5 @@
 -- Words on texts: marks at the front of a text, and runs of characters.
-use Rattle.htoken.proofs.CutNames.{◌≡◌, ℕ, Bool, true, false, not, List, [], ◌∷◌, ◌++◌, length, sym, refl, ap, ◌∙◌, false≢true, length-map, Placed, characters, begins, stops, all, and_parts, first_is, same_front}
+use Rattle.htoken.proofs.Names.{◌≡◌, ℕ, Bool, true, false, not, List, [], ◌∷◌, ◌++◌, length, sym, refl, ap, ◌∙◌, false≢true, length-map, Placed, characters, begins, stops, all, and_parts, first_is, same_front}
 pub use Rattle.names.proofs.Words.{heads, tails, begins-append as begins_more}
 
 -- after one mark

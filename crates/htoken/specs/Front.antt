@@ -9,7 +9,6 @@ use Rattle.names.specs.declared.error.ParseError.{ParseError}
 use Rattle.names.specs.declared.placed.Placed.{Placed}
 use Rattle.names.specs.declared.raw.RawKind.{RawKind}
 use Rattle.names.specs.declared.refusal.Refusal.{Refusal}
-use Rattle.names.specs.declared.refusal.Refusal.TheVariants.{Memory}
 use Rattle.names.specs.Names.{Texts}
 use Rattle.names.specs.Placed.{characters, placed, error_if, is_alphanumeric}
 use Rattle.names.specs.Sink.{Hands}
@@ -95,21 +94,6 @@ pub record TellsText {S : Type 0} (gives : S → ParseError → Result (Unit {0}
 -- the events of a front that is handed over as one text
 abbrev pub events_with_references : List Placed → List ParseError → List Event
 events_with_references given errors = run_events given ++ map Reports errors
-
--- A front of a run was handed over as one text, or the sink refused it.
-pub record GivesFront {S : Type 0} (gives : S → Item → Result (Unit {0}) Refusal → S → Type 0) (names : Texts) (table : Entities)
-    (kind : RawKind) (run : List ℕ) (at count : ℕ) (old : S) (answer : Result (Unit {0}) Refusal) (new : S) : Type 0 where
-  pub errors : List ParseError
-  pub given : List Placed
-  pub front : IsFront table kind run at count errors given
-  pub handed : HandsEvents gives names old (events_with_references given errors) answer new
-
--- While it was read, memory ran out before anything was handed over, or the sink refused.
-pub data RefusesFront {S : Type 0} (gives : S → Item → Result (Unit {0}) Refusal → S → Type 0) (names : Texts) (table : Entities)
-    (kind : RawKind) (run : List ℕ) (at : ℕ) (old : S) (e : Refusal) (new : S) : Type 0 where
-  with_references_ran_out : e ≡ Memory → new ≡ old → RefusesFront gives names table kind run at old e new
-  with_references_refused : (count : ℕ) → GivesFront gives names table kind run at count old (Err e) new
-      → RefusesFront gives names table kind run at old e new
 
 -- What was gathered is handed over, unless the sink does not take it as one run.
 abbrev pub GivesTextWithReferences : {S : Type 0} → (S → Item → Result (Unit {0}) Refusal → S → Type 0) → Texts → List Placed → List ParseError

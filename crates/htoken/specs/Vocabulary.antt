@@ -35,3 +35,5 @@ pub use Rattle.names.specs.declared.error.ParseError.{ParseError as Error}
 pub use Rattle.names.specs.declared.placed.Placed.{Placed as Character}
 pub use Rattle.names.specs.declared.raw.RawKind.{RawKind as Kind}
 pub use Rattle.names.specs.declared.refusal.Refusal.{Refusal as Refused}
+pub use Rattle.std.specs.List.{list_all, prefix_len}
+pub use Rattle.std.specs.Str.{chars}

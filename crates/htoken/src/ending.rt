@@ -90,12 +90,8 @@ impl<'t> Tokenizer<'t> {
         ensures { (names : Texts) → HandsEvents (gives_item S.gives S.gives_token) names sink.old
             (map Reports (script_errors end self.old) ++ Gives (Eof end) ∷ []) result sink.new }
     {
-        tell_if(
-            self.is_cut_off(),
-            ErrorCode::EofInScriptHtmlCommentLikeText,
-            end,
-            sink,
-        )?;
+        let code = ErrorCode::EofInScriptHtmlCommentLikeText;
+        tell_if(self.is_cut_off(), code, end, sink)?;
         sink.take_token(Token::Eof { at: end })
     }
 

@@ -2,9 +2,7 @@
 //! `#character-reference-state` to `#ambiguous-ampersand-state`).
 
 ghost use Rattle.std.specs.Prelude.{◌≡◌, ◌≤◌, ◌<◌, ◌+◌, List, true, false, IfOk, IfSome, is_some, MatchResult, Err, drop, length, slice_index, take};
-ghost use Rattle.std.specs.List.{list_all};
-ghost use Rattle.std.specs.Str.{chars};
-ghost use Rattle.htoken.specs.Vocabulary.{bare_errors, Character, Entities, Error, Event, FeedsPart, first_placed, FollowsAll, gives_item, Hands, is_clean, is_script, is_text_byte, IsBare, IsCut, IsWhole, Kind, MAX_INPUT, placed, Reads, run_tokens, ShowsAmpersand, Takes, TakesOn, TellsText, Texts};
+ghost use Rattle.htoken.specs.Vocabulary.{bare_errors, Character, chars, Entities, Error, Event, FeedsPart, first_placed, FollowsAll, gives_item, Hands, is_clean, is_script, is_text_byte, IsBare, IsCut, IsWhole, Kind, list_all, MAX_INPUT, placed, Reads, run_tokens, ShowsAmpersand, Takes, TakesOn, TellsText, Texts};
 
 use crate::hand::{give_piece, tell_unknown};
 use crate::run::after_last;

@@ -1,9 +1,7 @@
 //! Runs of plain characters, taken as wholes where a state allows it.
 
 ghost use Rattle.std.specs.Prelude.{◌≡◌, ◌≤◌, ◌<◌, ◌+◌, ◌++◌, List, true, false, Some, Err, IfErr, IfOk, length};
-ghost use Rattle.std.specs.List.{list_all, prefix_len};
-ghost use Rattle.std.specs.Str.{chars};
-ghost use Rattle.htoken.specs.Vocabulary.{Character, Entities, Event, FeedsPart, FeedsText, gives_item, Grows, HasTaken, is_clean, is_only_data, is_script, IsCut, Kind, MAX_INPUT, after_last, placed, Refused, replacement_run, Takes, Texts};
+ghost use Rattle.htoken.specs.Vocabulary.{after_last, Character, chars, Entities, Event, FeedsPart, FeedsText, gives_item, Grows, HasTaken, is_clean, is_only_data, is_script, IsCut, Kind, list_all, MAX_INPUT, placed, prefix_len, Refused, replacement_run, Takes, Texts};
 
 use crate::sink::TokenSink;
 use crate::state::State;

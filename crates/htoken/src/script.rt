@@ -1,8 +1,7 @@
 //! The level of script data (HTML Standard, `#script-data-less-than-sign-state` to `#script-data-double-escape-end-state`).
 
 ghost use Rattle.std.specs.Prelude.{◌≡◌, [], ◌∷◌, ◌==◌, ◌&&◌, ℕ, List, nat_lt, bit_and};
-ghost use Rattle.std.specs.Str.{chars};
-ghost use Rattle.htoken.specs.Vocabulary.{byte_of, Character, ends_name, FollowsAll, HasFront, level_number, next_level, placed};
+ghost use Rattle.htoken.specs.Vocabulary.{byte_of, Character, chars, ends_name, FollowsAll, HasFront, level_number, next_level, placed};
 
 use names::Placed;
 

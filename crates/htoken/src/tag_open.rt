@@ -43,13 +43,8 @@ impl<'t> Tokenizer<'t> {
         ensures { TakesNext (gives_item S.gives S.gives_token) self.old (record { ch = ch; at = at }) sink.old result sink.new self.new }
     {
         self.state = State::Text;
-        give_faulty(
-            ErrorCode::InvalidFirstCharacterOfTagName,
-            at,
-            '<',
-            self.at,
-            sink,
-        )?;
+        let code = ErrorCode::InvalidFirstCharacterOfTagName;
+        give_faulty(code, at, '<', self.at, sink)?;
         self.in_text(ch, at, sink)
     }
 

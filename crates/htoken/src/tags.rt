@@ -3,6 +3,7 @@
 ghost use Rattle.std.specs.Prelude.{◌≡◌, ◌∷◌, ℕ, List, [], Some, OnOk};
 ghost use Rattle.htoken.specs.Vocabulary.{BeginsTag, Character, End, EndsStartTag, EndsTag, Entities, Event, gives_item, Grows, KeepsFaults, KeepsIf, Kind, Reads, Takes, Texts};
 
+use crate::hand::give_tag;
 use crate::script::Script;
 use crate::sink::TokenSink;
 use crate::state::State;
@@ -60,7 +61,8 @@ impl<'t> Tokenizer<'t> {
                 self.keep_faults()?;
                 let at = self.at;
                 self.kind = RawKind::None;
-                self.end_tag_span(Token::End { name, at }, names, sink)
+                self.end_errors(sink)?;
+                give_tag(Token::End { name, at }, names, sink)
             }
         }
     }

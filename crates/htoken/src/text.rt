@@ -1,8 +1,7 @@
 //! Text: data, RCDATA, RAWTEXT, script data and PLAINTEXT (HTML Standard, `#data-state` to `#plaintext-state`).
 
 ghost use Rattle.std.specs.Prelude.{◌≡◌, ◌∷◌, ℕ, [], true, ◌&&◌, is_some};
-ghost use Rattle.std.specs.Str.{chars};
-ghost use Rattle.htoken.specs.Vocabulary.{Char, ends_by, Gives, gives_item, HandsEvents, has_references, is_raw, is_script, IsFollowed, FollowsAll, level_number, placed, TakesNext, Texts};
+ghost use Rattle.htoken.specs.Vocabulary.{Char, chars, ends_by, FollowsAll, Gives, gives_item, HandsEvents, has_references, is_raw, is_script, IsFollowed, level_number, placed, TakesNext, Texts};
 
 use crate::hand::{give, give_faulty};
 use crate::sink::TokenSink;

@@ -1,9 +1,9 @@
 //! Characters in, tokens out: a tokenizer, and which state takes a character (HTML Standard, `#tokenization`).
 
 ghost use Rattle.std.specs.Prelude.{◌≡◌, ◌∷◌, List, [], Some, Err, IfErr};
-ghost use Rattle.htoken.specs.Vocabulary.{after_place, Alone, Character, EndsSpan, Entities, Event, FeedsText, Finishes, from_of, gives_item, Grows, Hands, HasTaken, HoldsFrom, IsTable, items_of, Kind, Refused, start_kind, Takes, Texts, WithNames};
+ghost use Rattle.htoken.specs.Vocabulary.{after_place, Alone, Character, EndsSpan, Entities, Event, FeedsText, Finishes, from_of, gives_item, Grows, Hands, HasTaken, HoldsFrom, IsTable, items_of, Kind, Refused, start_kind, Takes, Texts};
 
-use crate::hand::{give_tag, hand_errors};
+use crate::hand::hand_errors;
 use crate::script::Script;
 use crate::sink::TokenSink;
 use crate::state::{Raised, State};
@@ -215,22 +215,6 @@ impl<'t> Tokenizer<'t> {
     {
         self.end_errors(sink)?;
         sink.take_token(token)
-    }
-
-    /// The same of a tag.
-    #[inline(always)]
-    pub(crate) fn end_tag_span<S: TokenSink>(
-        &mut self,
-        token: Token,
-        names: &Names,
-        sink: &mut S,
-    ) -> Answer
-        ensures handed { Hands (gives_item S.gives S.gives_token) sink.old (items_of self.old.raised.errors.items (Some (WithNames names.now token)))
-            result sink.new }
-        ensures then { EndsSpan self.old self.new }
-    {
-        self.end_errors(sink)?;
-        give_tag(token, names, sink)
     }
 
     /// Hands over the errors of the span that has ended.

@@ -2,9 +2,7 @@
 //! `#numeric-character-reference-end-state`).
 
 ghost use Rattle.std.specs.Prelude.{◌≡◌, ◌≤◌, ◌<◌, ◌+◌, ℕ, List, true, false, IfOk, IfSome, MatchResult, drop, length, slice_index, IsUtf8};
-ghost use Rattle.std.specs.List.{list_all};
-ghost use Rattle.std.specs.Str.{chars};
-ghost use Rattle.htoken.specs.Vocabulary.{AddsReferences, Character, characters_of, Entities, gives_item, GivesTextWithReferences, is_clean, is_not_null, is_text_byte, IsBare, IsCut, IsGathered, IsTextWithReferences, IsWhole, Kind, MAX_INPUT, Texts};
+ghost use Rattle.htoken.specs.Vocabulary.{AddsReferences, Character, characters_of, chars, Entities, gives_item, GivesTextWithReferences, is_clean, is_not_null, is_text_byte, IsBare, IsCut, IsGathered, IsTextWithReferences, IsWhole, Kind, list_all, MAX_INPUT, Texts};
 
 use crate::front::{Ampersand, at_ampersand, tell_bare};
 use crate::gathered_text::GatheredText;

@@ -1,5 +1,5 @@
-use Rattle.htoken.proofs.Names.{◌≡◌, ◌+◌, true, ℕ, Bool, List, [], drop, sym, refl, subst, arith, Ok, Tokenizer, IsCharBoundary-from_drop, list_all, chars, is_clean, IsCut, clean_rest, cut_more, gives_item, err_is, IsFront, IsTakenFront, GivesTextWithReferences, with_references_ran_out, with_references_refused}
-use Rattle.htoken.proofs.InText.{with_references_fails, with_references_given}
+use Rattle.htoken.proofs.Names.{◌≡◌, ◌+◌, true, ℕ, Bool, List, [], drop, sym, refl, subst, arith, Ok, Tokenizer, IsCharBoundary-from_drop, list_all, chars, is_clean, IsCut, clean_rest, cut_more, gives_item, err_is, IsFront, IsTakenFront, GivesTextWithReferences}
+use Rattle.htoken.proofs.InText.{with_references_given, with_references_not, with_references_out}
 use Rattle.htoken.proofs.WithReferences.{may_of, ends_later, whole_later, front_none, gathered_with_references}
 use Rattle.htoken.proofs.tokenizer.Tokenizer.take_references.Goals as goal
 
@@ -17,8 +17,7 @@ pub returns-in_err-more-clause-takes : goal.returns-in_err-more-clause-takes
 returns-in_err-more-clause-takes g c =
     let may = may_of c.args.self.now.table.now c.args.self.now.kind (drop c.args.count c.args.run.now) c.args.whole c.requires.some c.requires.whole in
     rw (err_is c.from_residual.result _ c.from_residual.ensures.1) (λ table start names text taken old front.
-    with_references_fails (gives_item g.S.ErrorSink.gives g.S.TokenSink.gives_token) table start names text taken c.args.self.now c.args.run.now c.args.at c.args.count old c.args.sink.now front c.requires.cut c.requires.text may _ c.args.sink.now _
-    (with_references_ran_out c.in_err-more.ensures.gathered refl))
+    with_references_out (gives_item g.S.ErrorSink.gives g.S.TokenSink.gives_token) table start names text taken c.args.self.now c.args.run.now c.args.at c.args.count old c.args.sink.now front c.requires.cut c.requires.text may _ _ c.in_err-more.ensures.gathered)
 
 pub returns-in_err-give-clause-takes : goal.returns-in_err-give-clause-takes
 returns-in_err-give-clause-takes g c =
@@ -26,12 +25,9 @@ returns-in_err-give-clause-takes g c =
     let is = c.in_ok-more.ensures.gathered in
     let gathered = gathered_with_references c.args.self.now.table.now c.args.self.now.kind c.range_from-rest.result.now (c.args.at + c.args.count) _ _ is in
     rw (err_is c.from_residual-in_err-give.result _ c.from_residual-in_err-give.ensures.1) (λ table start names text taken old front.
-    with_references_fails (gives_item g.S.ErrorSink.gives g.S.TokenSink.gives_token) table start names text taken c.args.self.now c.args.run.now c.args.at c.args.count old c.args.sink.now front c.requires.cut c.requires.text may _ c.give.new.sink _ (with_references_refused c.in_ok-more.more (record {
-      errors = c.gather.new.self.raised.errors.items;
-      given = is.given;
-      front = subst (λ (x : List ℕ). IsFront c.args.self.now.table.now c.args.self.now.kind x (c.args.at + c.args.count) c.in_ok-more.more c.gather.new.self.raised.errors.items is.given) c.range_from-rest.ensures.value is.front;
-      handed = c.in_err-give.ensures names is.given gathered.1;
-    })))
+    with_references_not (gives_item g.S.ErrorSink.gives g.S.TokenSink.gives_token) table start names text taken c.args.self.now c.args.run.now c.args.at c.args.count old c.args.sink.now front c.requires.cut c.requires.text may c.in_ok-more.more c.gather.new.self.raised.errors.items is.given
+    (subst (λ (x : List ℕ). IsFront c.args.self.now.table.now c.args.self.now.kind x (c.args.at + c.args.count) c.in_ok-more.more c.gather.new.self.raised.errors.items is.given) c.range_from-rest.ensures.value is.front)
+    _ c.give.new.sink _ (c.in_err-give.ensures names is.given gathered.1))
 
 pub take_end-requires-clause-cut : goal.take_end-requires-clause-cut
 take_end-requires-clause-cut g c =
