@@ -1,7 +1,7 @@
 //! The end tag of raw text (HTML Standard, `#rcdata-less-than-sign-state` to `#script-data-end-tag-name-state`).
 
-ghost use Rattle.std.specs.Prelude.{◌≡◌, ◌∷◌, ◌++◌, List, [], slice_get, true, false, length, string_bytes, MatchResult};
-ghost use Rattle.htoken.specs.Vocabulary.{backwards, Character, Entities, Event, gives_item, Grows, HandsEvents, HasFront, held_in_raw, Holds, is_script, Kind, name_ends, Reads, run_events, Takes, TakesNext, Texts};
+ghost use Rattle.std.specs.Prelude.{◌≡◌, ◌∷◌, List, [], slice_get, true, length, string_bytes, MatchResult};
+ghost use Rattle.htoken.specs.Vocabulary.{backwards, Character, Entities, Event, gives_item, Grows, HandsEvents, HasFront, held_in_raw, Holds, is_script, Kind, Reads, run_events, Takes, TakesNext, Texts};
 
 use crate::hand::{give, give_all};
 use crate::markup_declaration_open::is_read_as;
@@ -53,33 +53,18 @@ impl<'t> Tokenizer<'t> {
         ensures grows { Grows names.old names.new }
     {
         match self.expected() {
-            Some(byte) => {
-                if is_read_as(ch, byte, true) {
-                    self.hold(ch, at)
-                } else {
-                    self.after_held(solidus, ch, at, sink)
-                }
+            Some(byte) if is_read_as(ch, byte, true) => self.hold(ch, at),
+            None if ends_name(ch) => {
+                self.tag.begin_end();
+                self.state = State::Tag;
+                self.in_tag(names, ch, at, sink)
             }
-            None => {
-                if ends_name(ch) {
-                    self.tag.begin_end();
-                    self.state = State::Tag;
-                    self.in_tag(names, ch, at, sink)
-                } else {
-                    self.after_held(solidus, ch, at, sink)
-                }
+            // It is no end tag.
+            _ => {
+                self.give_held(solidus, sink)?;
+                self.in_text(ch, at, sink)
             }
         }
-    }
-
-    /// Takes a character that shows what is held in raw text to be no end tag.
-    fn after_held<S: TokenSink>(&mut self, solidus: u64, ch: char, at: u64, sink: &mut S) -> Answer
-        requires { self.old.state ≡ State.RcdataEndTagName solidus }
-        ensures { ((more : List Character) → name_ends (string_bytes self.old.tag.name) (self.old.held.items ++ record { ch = ch; at = at } ∷ more) ≡ false)
-            → TakesNext (gives_item S.gives S.gives_token) self.old (record { ch = ch; at = at }) sink.old result sink.new self.new }
-    {
-        self.give_held(solidus, sink)?;
-        self.in_text(ch, at, sink)
     }
 
     /// Holds a character.

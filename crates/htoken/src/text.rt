@@ -59,20 +59,14 @@ impl<'t> Tokenizer<'t> {
         ensures { TakesNext (gives_item S.gives S.gives_token) self.old (record { ch = ch; at = at }) sink.old result sink.new self.new }
     {
         match ch {
-            '<' => {
-                if self.may_end() {
-                    self.state = State::RcdataLessThanSign;
-                    self.at = at;
-                    return Ok(());
-                }
-                self.give_raw(ch, at, sink)
+            '<' if self.may_end() => {
+                self.state = State::RcdataLessThanSign;
+                self.at = at;
+                Ok(())
             }
-            '&' => {
-                if allows_references(self.kind) {
-                    self.begin_reference(at);
-                    return Ok(());
-                }
-                self.give_raw(ch, at, sink)
+            '&' if allows_references(self.kind) => {
+                self.begin_reference(at);
+                Ok(())
             }
             '\0' => {
                 self.follow(ch);
