@@ -1,6 +1,6 @@
 -- What a turn of the adoption agency's outer loop keeps, and what its steps ask. In the inner loop the formatting element stays open, its entry
 -- stays in the list, and so does the bookmark.
-use Rattle.hadopt.proofs.Names.{◌≡◌, ◌≢◌, ℕ, suc, ◌<◌, true, not, eqb, leb, cond, ◌||◌, List, [], ◌∷◌, is_some, refl, sym, ◌∙◌, ap, arith, eqb-true, eq-eqb, ne_eqb, cond_both, or-true, list_any, before, OpenNode, is_node, Listed, marker, entry, is_entry, without_entry, for_node, with_node, Bookmark, InPlace, After, numbers, InnerLoop, entries_for, inner_turn, inner_loop, Each, Bool, false, Some, None, nat_eq, subst, Ok, Err, drop, ◌⊎◌, inl, inr, Result, IfOk, IfSome, Refusal, some_same, is_open, in_scope, furthest_block, above, below, current, Forest, AreCounted, place_node, at-most, deep-there, is-there, deep, deep-is, deep-self, place_in, stops_in_scope, Default, EntryOf, find_entry, tag_of, ErrorCode, Goes, SiteOf, stack, trees, with_stack, error_unless, outer_turn, outer_loop, is_unlisted, adopted, most_turns, Gives, IsSound, AreDifferent, WithFurthestBlock, option_map_or, TreeInBody, current_is, Ended, popped_with, with_furthest_block, with_formatting_element, with_error, topmost_special}
+use Rattle.hadopt.proofs.Names.{◌≡◌, ◌≢◌, ℕ, suc, ◌<◌, true, not, eqb, leb, cond, ◌||◌, List, [], ◌∷◌, is_some, refl, sym, ◌∙◌, ap, arith, eqb-true, eq-eqb, ne_eqb, cond_both, or-true, list_any, before, OpenNode, is_node, Listed, marker, entry, is_entry, without_entry, for_node, with_node, Bookmark, InPlace, After, numbers, InnerLoop, entries_for, inner_turn, inner_loop, Each, Bool, false, Some, None, nat_eq, subst, Ok, Err, ◌⊎◌, inl, inr, Result, IfOk, IfSome, Refusal, some_same, is_open, in_scope, furthest_block, above, below, current, Forest, AreCounted, place_node, at-most, deep-there, is-there, deep, deep-is, deep-self, place_in, stops_in_scope, Default, EntryOf, find_entry, tag_of, ErrorCode, Goes, SiteOf, stack, trees, error_unless, outer_turn, IsSound, AreDifferent, WithFurthestBlock, option_map_or, TreeInBody, current_is, Ended, popped_with, with_furthest_block, with_formatting_element, with_error, topmost_special}
 use Rattle.std.specs.Prelude.{IsTrue}
 use Rattle.hopen.specs.Formatting.{has_bookmark}
 use Rattle.hopen.proofs.Bookmarks.{any-is_entry, has_bookmark-after}
@@ -228,9 +228,3 @@ module _ (at : ℕ) (f : EntryOf ℕ) (s t : SiteOf ℕ) (scope : in_scope (stop
 pub turn-keeps : (at name : ℕ) (s new : SiteOf ℕ) (r : Result code.Turn Refusal) → IsSound numbers s → TurnGives r new (outer_turn numbers at name s) → IfOk r (λ t. IsSound numbers new)
 turn-keeps at name s new (Ok t) k is = outer-turn-keeps at name s new t k is
 turn-keeps at name s new (Err e) k is = tt
-
-pub adopted-pops : (at name : ℕ) (s : SiteOf ℕ) → is_unlisted numbers at name s ≡ true → adopted numbers at name s ≡ Goes (with_stack (drop 1 (stack s)) s)
-adopted-pops at name s e = rw (e) refl
-
-pub adopted-gives : {A : Type 0} (at name : ℕ) (s new : SiteOf ℕ) (r : Result A Refusal) → is_unlisted numbers at name s ≡ false → Gives r new (outer_loop numbers at most_turns name s) → Gives r new (adopted numbers at name s)
-adopted-gives at name s new r e g = rw (e) g
