@@ -5,20 +5,9 @@ use Rattle.hmodes.specs.Reached as reached
 use Rattle.hmodes.specs.Step.{none}
 use Rattle.hmodes.proofs.Between.{texts-all, reached-orderly}
 use Rattle.hmodes.proofs.Ends.{some-step}
-use Rattle.hmodes.proofs.Single.{step-one}
+use Rattle.hmodes.proofs.OfTable.{steps-one}
 use Rattle.htoken.proofs.OneFront.{one_front, one_front_of_refused}
 use Rattle.hlaws.proofs.OneInput.{all-read, one-list}
-
--- tokens in order have one result
-steps-one : (ts : List (PlacedToken (List ℕ))) (s : State (List ℕ)) (o o' : Outcome (State (List ℕ))) → Steps texts ts s o → Steps texts ts s o' → o ≡ o'
-steps-one [] s o o' none none = refl
-steps-one (t ∷ ts) s o o' (and {s' = u} first rest) (and {s' = u'} first' rest') =
-    let same = step-one texts t.at t.token s (Goes u) (Goes u') first first' in
-    let states : u ≡ u' = cc in
-    steps-one ts u o o' rest (subst (λ (x : State (List ℕ)). Steps texts ts x o') (sym states) rest')
-steps-one (t ∷ ts) s o o' (and {s' = u} first rest) (refused {r = r} first') = let clash = step-one texts t.at t.token s (Goes u) (Refused r) first first' in cc
-steps-one (t ∷ ts) s o o' (refused {r = r} first) (and {s' = u} first' rest) = let clash = step-one texts t.at t.token s (Refused r) (Goes u) first first' in cc
-steps-one (t ∷ ts) s o o' (refused {r = r} first) (refused {r = r'} first') = step-one texts t.at t.token s (Refused r) (Refused r') first first'
 
 -- what refuses one of them refuses it whatever follows
 refused-more : (ts us : List (PlacedToken (List ℕ))) (s : State (List ℕ)) (r : Refusal) → Steps texts ts s (Refused r) → Steps texts (ts ++ us) s (Refused r)
@@ -95,7 +84,7 @@ module _ (opts : ParseOptions) (parse_case : ParseCase) (bytes : List ℕ) where
   only answer tokens decided x h = record {
     one = x;
     is = h;
-    other = λ y k. let a = decided y k in let b = decided x h in a.is ∙ ap answer (steps-one (map token_placed tokens) (first_state opts parse_case) a.outcome b.outcome a.leads b.leads) ∙ sym b.is;
+    other = λ y k. let a = decided y k in let b = decided x h in a.is ∙ ap answer (steps-one texts (map token_placed tokens) (first_state opts parse_case) a.outcome b.outcome a.leads b.leads) ∙ sym b.is;
   }
 
   -- the text is refused for a start tag

@@ -1,5 +1,6 @@
 -- The rules where the state is quiet: by the mode, and what they do with characters.
-use Rattle.hlaws.proofs.Names.{arith, nat_tests, ◌≡◌, ℕ, ◌+◌, ◌<◌, Bool, true, false, List, [], ◌∷◌, ◌++◌, map, None, refl, sym, ◌∙◌, ap, lt-leb, false≢true, list_all, nat_le, encode_utf8, ◌==◌, text, Forest, none, tree, times, text_before, LastIn, OpenNode, Listed, entry, Placed, is_space, Naming, Outcome, Goes, is_fostering, Family, Mode, InBody, InCaption, InCell, Text, InTable, InTableText, InTableBody, InRow, Comment, Start, End, rule_of, perform, Token, character, Control, State, Done, kind_of, Rule, goes_again, step_begun, is_flow_mode, under, EntriesOpen, Chain, append-nil, append_assoc, encode_utf8_all, with_char, reconstructed, TokenKind, Nul, Ws, Char, Do, put, character_in_body, each_of, Flow, Again, flow_then}
+use Rattle.hlaws.proofs.Names.{◌≡◌, ℕ, ◌+◌, ◌<◌, Bool, true, false, List, [], ◌∷◌, ◌++◌, map, None, refl, sym, ◌∙◌, ap, lt-leb, false≢true, list_all, nat_le, encode_utf8, text, Forest, none, tree, times, text_before, LastIn, OpenNode, Listed, entry, Placed, is_space, Naming, Outcome, Goes, is_fostering, Family, Mode, InBody, InCaption, InCell, Text, InTable, InTableText, InTableBody, InRow, Comment, Start, End, rule_of, perform, Token, character, Control, State, Done, kind_of, Rule, goes_again, step_begun, is_flow_mode, under, EntriesOpen, Chain, append-nil, append_assoc, encode_utf8_all, with_char, reconstructed, TokenKind, Nul, Ws, Char, Do, put, character_in_body, each_of, Flow, Again, flow_then}
+use Rattle.hmarkup.proofs.Characters.{space_not_null}
 use Rattle.hlaws.proofs.TokensText.{is_clean_char, clean_not_null}
 use Rattle.hlaws.proofs.Growing.{graft-new, what-new, text_before-new}
 
@@ -19,9 +20,6 @@ flow_rule InBody k r m h = h.0
 flow_rule InCaption k r m h = h.1
 flow_rule InCell k r m h = h.2
 flow_rule _ k r m h = absurd (false≢true m)
-
-space_not_null : (ch : ℕ) → is_space ch ≡ true → (ch == 0) ≡ false
-space_not_null ch h = grind (arith, nat_tests)
 
 -- the kinds of tokens that are no characters
 abbrev pub is_other : TokenKind → Bool

@@ -1,9 +1,10 @@
 -- Texts that are cut into spans, one after another, and the characters among them.
-use Rattle.hlaws.proofs.Names.{false≢true, has_references, arith, ◌≡◌, ℕ, Bool, true, false, not, cond, ◌&&◌, ◌||◌, Some, List, [], ◌∷◌, ◌++◌, map, refl, sym, ◌∙◌, ap, subst, append-nil, append_assoc, and_right, or_from, flat_map-append, map-append, ◌==◌, first_is, Placed, RawKind, characters, begins, is_alphanumeric, Entities, Piece, IsTable, longest, named_piece, ends_in_semicolon, Span, piece_span, Standing, next, standing_after, IsSpan, raw_character, is_raw_end, is_end_tag_of, plain_piece, Cut, spans_text, has_refused, Token, character, token_taken, Option, None, IsReference, named, raw_reference, character_span, tokens_of, is_refused_tag, list_any-append, is_raw, in_data, in_raw}
+use Rattle.hlaws.proofs.Names.{false≢true, has_references, arith, ◌≡◌, ℕ, Bool, true, false, not, cond, ◌&&◌, ◌||◌, List, [], ◌∷◌, ◌++◌, map, refl, sym, ◌∙◌, ap, subst, append-nil, append_assoc, and_right, or_from, flat_map-append, map-append, ◌==◌, first_is, Placed, RawKind, characters, begins, is_alphanumeric, Entities, Piece, IsTable, longest, named_piece, ends_in_semicolon, Span, piece_span, Standing, next, standing_after, IsSpan, raw_character, plain_piece, Cut, spans_text, has_refused, Token, character, token_taken, None, IsReference, named, raw_reference, character_span, tokens_of, is_refused_tag, list_any-append, is_raw, in_data, in_raw}
 use Rattle.names.specs.declared.raw.RawKind.TheVariants as kind
 use Rattle.htoken.specs.Data as production
 use Rattle.hserialize.specs.declared.escaping.Setting.TheVariants as setting
 use Rattle.hlaws.proofs.TokensCore.{IsCoreName, Way, by_name, by_itself, AreWritten, entry_of, longest-core, begins_alphanumeric}
+use Rattle.htoken.proofs.RawEnds.{other_goes_on}
 use Rattle.hlaws.proofs.TokensText.{tail_of}
 
 -- SPLITTING
@@ -135,21 +136,13 @@ module _ (table : Entities) (is_table : IsTable table) where
       (in_data table end here rest (character_span p) is_data (production.character p (ap (λ (x : ℕ). x == 60 || x == 38) is ∙ or_from _ _ no_less no_amp) refl))
       (ap (λ (x : ℕ). character x ∷ []) is) refl (record { kind_is = refl; name_is = refl }))
 
-  -- an end tag begins with `<`
-  pub no_raw_end : (here : Standing) (p : Placed) (rest : List Placed) → (p.ch == 60) ≡ false → is_raw_end here (p ∷ rest) ≡ false
-  no_raw_end here p rest h = and_right _ _ (go here.name)
-    where
-      go : (name : Option (List ℕ)) → is_end_tag_of name (p ∷ rest) ≡ false
-      go None = refl
-      go (Some name) = rw h refl
-
   rcdata_span : (c : ℕ) (ds : List ℕ) (text rest : List Placed) (end : ℕ) (here : Standing) → here.kind ≡ kind.Rcdata → (c == 0) ≡ false → Way table setting.Text c ds → characters text ≡ ds
       → Cuts table end here text rest (character c ∷ []) (Same here)
   rcdata_span c ds text rest end here is_rcdata no_null =
       char_cuts c ds text rest end here (λ piece r. in_raw table end here rest (piece_span piece) (ap is_raw is_rcdata) (raw_reference piece (rw is_rcdata refl) r refl))
       (λ p is no_amp no_less. one table end here rest (piece_span (plain_piece p)) (character c ∷ []) (Same here)
       (in_raw table end here rest (piece_span (plain_piece p)) (ap is_raw is_rcdata)
-      (raw_character p (no_raw_end here p rest (ap (λ (x : ℕ). x == 60) is ∙ no_less)) (and_right _ _ (ap (λ (x : ℕ). x == 38) is ∙ no_amp)) refl))
+      (raw_character p (other_goes_on here p rest (ap (λ (x : ℕ). x == 60) is ∙ no_less)) (and_right _ _ (ap (λ (x : ℕ). x == 38) is ∙ no_amp)) refl))
       (ap (λ (b : Bool). character (cond b 0xFFFD p.ch) ∷ []) (ap (λ (x : ℕ). x == 0) is ∙ no_null) ∙ ap (λ (x : ℕ). character x ∷ []) is) refl (record { kind_is = refl; name_is = refl }))
 
   same_then : (here there last : Standing) → Same here there → Same there last → Same here last

@@ -1,5 +1,5 @@
 -- Plain documents are read as their own tokens.
-use Rattle.hlaws.proofs.Names.{begins_with, ◌||◌, plain_tokens, append-nil, all-characters, is_space, inside_element, ◌≡◌, ℕ, Bool, true, false, not, ◌&&◌, cond, List, [], ◌∷◌, ◌++◌, map, Some, None, refl, sym, ◌∙◌, ap, subst, arith, and_parts, false≢true, bytes_eq-Decides, codes, list_all, to_ascii_lowercase, Placed, characters, name_bytes, raw_kind, tag_named, Entities, IsTable, HasCore, What, Forest, none, tree, texts, Token, Standing, Span, Escaping, AreTexts, is_plain_comment, first_is, null_errors, is_greater, lowered, Tag, Drop, is_plain, ends_document, is_leaf, leaves_then, comments_then, doctype_then, element_then, is_metadata, inside_head, are_metadata, body_on, are_in_html, html_on, is_plain_document, Texts, written_among, PlainDocumentTokens, in_data, is_raw}
+use Rattle.hlaws.proofs.Names.{begins_with, ◌||◌, plain_tokens, append-nil, all-characters, is_space, inside_element, ◌≡◌, ℕ, Bool, true, false, not, ◌&&◌, cond, List, [], ◌∷◌, ◌++◌, map, Some, None, refl, sym, ◌∙◌, ap, subst, arith, and_parts, false≢true, bytes_eq-Decides, codes, list_all, to_ascii_lowercase, Placed, characters, name_bytes, raw_kind, tag_named, Entities, IsTable, HasCore, What, Forest, none, tree, texts, Token, Standing, Span, Escaping, AreTexts, is_plain_comment, first_is, null_errors, is_greater, lowered, Tag, Drop, is_plain, ends_document, is_leaf, leaves_then, comments_then, doctype_then, element_then, is_metadata, inside_head, are_metadata, body_on, are_in_html, is_plain_document, Texts, written_among, PlainDocumentTokens, in_data, is_raw}
 use Rattle.names.specs.declared.raw.RawKind.TheVariants as kind
 use Rattle.names.specs.declared.tag.Tag.TheVariants as tag
 use Rattle.hnodes.specs.Forest as forest
@@ -162,34 +162,18 @@ module _ (table : Entities) (is_table : IsTable table) (core : HasCore table) (h
           → AreAllRead children → AreAllRead next → AreAllRead (element_then x children next)
       named x children next is as_data = element_read x children next (document_name x is) as_data
 
--- WHAT IS WRITTEN BEGINS WITH `<`
-
-module _ (how : Escaping) where
-  abbrev BeginLess : (Forest (List ℕ) → Bool) → Type 0
-  BeginLess test = (l : Forest (List ℕ)) → test l ≡ true → begins_with (codes "<") (written_among how false l) ≡ true
-
-  comments_begin : (next : Forest (List ℕ) → Bool) → BeginLess next → BeginLess (comments_then next)
-  comments_begin next law none h = law none h
-  comments_begin next law (tree m w kids rest) h = go w (is_leaf allowed.None w kids rest) refl h
-    where
-      go : (w : What (List ℕ)) (b : Bool) → is_leaf allowed.None w kids rest ≡ b → cond b (comments_then next rest) (next (tree m w kids rest)) ≡ true
-          → begins_with (codes "<") (written_among how false (tree m w kids rest)) ≡ true
-      go w false leaf k = law (tree m w kids rest) k
-      go (forest.comment t) true leaf k = refl
-      go (forest.text t) true leaf k = absurd (let x = leaf in grind arith)
-      go _ true leaf k = absurd (false≢true leaf)
-
-  doctype_begins : (next : Forest (List ℕ) → Bool) → BeginLess next → BeginLess (doctype_then next)
-  doctype_begins next law (tree m (forest.doctype name public_id system_id) kids rest) h = refl
-  doctype_begins next law l h = law l h
-
-  html_begins : BeginLess html_on
-  html_begins (tree m (forest.element name attrs) kids rest) h = refl
-  html_begins _ h = absurd (false≢true h)
+-- what is written of a plain document begins with `<`
+begins_less : (how : Escaping) (l : Forest (List ℕ)) → is_plain_document l ≡ true → begins_with (codes "<") (written_among how false l) ≡ true
+begins_less how (tree m (forest.element name attrs) kids rest) h = refl
+begins_less how (tree m (forest.comment t) kids rest) h = refl
+begins_less how (tree m (forest.doctype name public_id system_id) kids rest) h = refl
+begins_less how (tree m (forest.text t) kids rest) h =
+    let no_leaf : is_leaf allowed.None (forest.text t) kids rest ≡ false = grind arith in
+    absurd (false≢true (rw no_leaf at h))
+begins_less how _ h = absurd (false≢true h)
 
 -- the law
 pub tokens_law : PlainDocumentTokens
 tokens_law table escaping l is_table core u plain =
     let r = document_read table is_table core escaping l u plain in
-    let begins = comments_begin escaping _ (doctype_begins escaping _ (comments_begin escaping html_on (html_begins escaping))) l plain in
-    whole.as_data table is_table core escaping Drop l r (unmarked (written_among escaping false l) r.codes_are r.spells begins)
+    whole.as_data table is_table core escaping Drop l r (unmarked (written_among escaping false l) r.codes_are r.spells (begins_less escaping l plain))

@@ -1,15 +1,12 @@
 -- Raw texts, and the end tags that end them.
 use Rattle.hlaws.proofs.Names.{nat_tests, ◌≡◌, ℕ, suc, ◌+◌, Bool, true, false, not, cond, ◌&&◌, Some, None, List, [], ◌∷◌, ◌++◌, map, length, drop, refl, sym, ◌∙◌, ap, subst, arith, append_assoc, true≢false, and_parts, and_from, and_right, or_parts, or_right, false_from_ne_true, map-append, ◌==◌, codes, to_ascii_lowercase, list_all, first_is, Placed, characters, begins, spells, without_null, Entities, piece_span, Standing, raw_character, has_references, is_raw_end, is_end_tag_of, may_end, ends_name, ends_attribute_name, plain_piece, end, character, begins_with, has_part, Option, spells_in_any_case, raw_end, level, is_raw, in_raw}
 use Rattle.names.specs.declared.raw.RawKind.TheVariants as kind
+use Rattle.hmarkup.specs.CommentWalk.{backwards}
+use Rattle.htoken.proofs.InRaw.{after_characters}
 use Rattle.hlaws.proofs.TokensText.{is_clean_char, clean_not_null, is_written_ascii, tail_of}
 use Rattle.hlaws.proofs.TokensCuts.{split, Cuts, one, join, cuts_as, cuts_none}
 use Rattle.hlaws.proofs.TokensTags.{is_good}
 use Rattle.hlaws.proofs.TokensMarks.{IsElementName, an_end_tag, spells_is}
-
--- a text after those that were read, the last character first
-abbrev pub pushed : List Placed → List Placed → List Placed
-pushed [] front = front
-pushed (p ∷ ps) front = pushed ps (p ∷ front)
 
 -- no end tag of this name is in the text, where `rest` follows it
 abbrev pub NoEnd : Option (List ℕ) → List Placed → List Placed → Type 0
@@ -20,29 +17,26 @@ pub no_end_of_none : (text rest : List Placed) → NoEnd None text rest
 no_end_of_none [] rest = tt
 no_end_of_none (p ∷ ps) rest = (refl, no_end_of_none ps rest)
 
-abbrev pub pushed_on : Standing → List Placed → Standing
-pushed_on here text = record { kind = here.kind; name = here.name; front = pushed text here.front }
-
 module _ (table : Entities) (end_at : ℕ) where
   raw_char : (p : Placed) (c : ℕ) (rest : List Placed) (here : Standing) → is_raw here.kind ≡ true → has_references here.kind ≡ false → p.ch ≡ c → is_clean_char c ≡ true → is_end_tag_of here.name (p ∷ rest) ≡ false
-      → Cuts table end_at here (p ∷ []) rest (character c ∷ []) (λ there. there ≡ pushed_on here (p ∷ []))
+      → Cuts table end_at here (p ∷ []) rest (character c ∷ []) (λ there. there ≡ after_characters here (p ∷ []))
   raw_char p c rest here raw none same clean stays =
-      one table end_at here rest (piece_span (plain_piece p)) (character c ∷ []) (λ there. there ≡ pushed_on here (p ∷ []))
+      one table end_at here rest (piece_span (plain_piece p)) (character c ∷ []) (λ there. there ≡ after_characters here (p ∷ []))
       (in_raw table end_at here rest (piece_span (plain_piece p)) raw (raw_character p (and_right _ _ stays) (rw none refl) refl))
       (ap (λ (b : Bool). character (cond b 0xFFFD p.ch) ∷ []) (ap (λ (x : ℕ). x == 0) same ∙ clean_not_null c clean) ∙ ap (λ (x : ℕ). character x ∷ []) same) refl refl
 
   -- a text in which no reference is read
   pub raw_cuts : (cs : List ℕ) (text rest : List Placed) (here : Standing) → is_raw here.kind ≡ true → has_references here.kind ≡ false → characters text ≡ cs → list_all is_clean_char cs ≡ true → NoEnd here.name text rest
-      → Cuts table end_at here text rest (map (λ c. character c) cs) (λ there. there ≡ pushed_on here text)
-  raw_cuts [] [] rest here raw none e clean stays = cuts_none table end_at here rest (λ there. there ≡ pushed_on here []) refl
+      → Cuts table end_at here text rest (map (λ c. character c) cs) (λ there. there ≡ after_characters here text)
+  raw_cuts [] [] rest here raw none e clean stays = cuts_none table end_at here rest (λ there. there ≡ after_characters here []) refl
   raw_cuts (c ∷ cs) (p ∷ ps) rest here raw none e clean stays =
       let same : p.ch ≡ c = first_is p ps c cs e in
       let others : characters ps ≡ cs = tail_of p ps c cs e in
       let both = and_parts (is_clean_char c) (list_all is_clean_char cs) clean in
       let first = raw_char p c (ps ++ rest) here raw none same both.0 stays.0 in
-      let then = raw_cuts cs ps rest (pushed_on here (p ∷ [])) raw none others both.1 stays.1 in
-      join table end_at here (p ∷ []) ps rest (character c ∷ []) (map (λ c. character c) cs) (λ there. there ≡ pushed_on here (p ∷ [])) (λ there. there ≡ pushed_on here (p ∷ ps)) first
-      (subst (λ (there : Standing). Cuts table end_at there ps rest (map (λ c. character c) cs) (λ there. there ≡ pushed_on here (p ∷ ps))) (sym first.leads) then)
+      let then = raw_cuts cs ps rest (after_characters here (p ∷ [])) raw none others both.1 stays.1 in
+      join table end_at here (p ∷ []) ps rest (character c ∷ []) (map (λ c. character c) cs) (λ there. there ≡ after_characters here (p ∷ [])) (λ there. there ≡ after_characters here (p ∷ ps)) first
+      (subst (λ (there : Standing). Cuts table end_at there ps rest (map (λ c. character c) cs) (λ there. there ≡ after_characters here (p ∷ ps))) (sym first.leads) then)
   raw_cuts _ _ rest here raw none e clean stays = absurd cc
 
 -- WHERE NO END TAG STANDS
@@ -85,7 +79,7 @@ no_opening (p ∷ q ∷ r ∷ s ∷ front) cs h = false_from_ne_true _ (λ e.
     let here : has_part (codes "<!--") (s.ch ∷ r.ch ∷ q.ch ∷ p.ch ∷ cs) ≡ true = grind (arith, nat_tests) in
     true≢false (sym (has_part-put_back (codes "<!--") front (s.ch ∷ r.ch ∷ q.ch ∷ p.ch ∷ cs) here) ∙ h))
 
-pub level_zero : (text front : List Placed) (cs : List ℕ) → characters text ≡ cs → level front ≡ 0 → has_part (codes "<!--") (put_back front cs) ≡ false → level (pushed text front) ≡ 0
+pub level_zero : (text front : List Placed) (cs : List ℕ) → characters text ≡ cs → level front ≡ 0 → has_part (codes "<!--") (put_back front cs) ≡ false → level (backwards front text) ≡ 0
 level_zero [] front cs e z h = z
 level_zero (p ∷ ps) front [] e z h = absurd cc
 level_zero (p ∷ ps) front (c ∷ cs) e z h =

@@ -7,12 +7,14 @@ use Rattle.hserialize.specs.declared.content.Content.TheVariants as content
 use Rattle.hserialize.specs.declared.content.Texts.TheVariants as allowed
 use Rattle.hserialize.specs.declared.escaping.Setting.TheVariants as setting
 use Rattle.hserialize.proofs.Documents.{is_one_text, one_text as is_one}
+use Rattle.hmarkup.specs.CommentWalk.{backwards}
+use Rattle.htoken.proofs.InRaw.{after_characters}
 use Rattle.hlaws.proofs.Content.{three, four}
 use Rattle.hlaws.proofs.TokensText.{Spells, spells-append, spells_text, spells_utf8, clean_text, text_characters, begins_marked, no_part}
 use Rattle.hlaws.proofs.TokensCore.{escaped_as}
 use Rattle.hlaws.proofs.TokensCuts.{split, Cuts, Same, join, cuts_as, text_cuts}
 use Rattle.hlaws.proofs.TokensMarks.{IsElementName, after_start}
-use Rattle.hlaws.proofs.TokensRaw.{raw_cuts, raw_end_cuts, pushed_on, pushed, no_end_in, no_end_of_none, level_zero}
+use Rattle.hlaws.proofs.TokensRaw.{raw_cuts, raw_end_cuts, no_end_in, no_end_of_none, level_zero}
 use Rattle.hlaws.proofs.TokensPlain.{fits, fits_context, all_contexts, IsKnownName, known_name, InData, Reads, led, told, reads-nil, reads-append, StartTag, a_start_tag, end_mapped, end_tag_reads, start_tag_reads, text_reads, comment_reads}
 
 -- ONE TEXT AT MOST
@@ -99,7 +101,7 @@ pub record EndsRaw (name : List ℕ) (there : Standing) : Type 0 where
 
 -- what may be in text without references does not end it
 ends_raw : (k : RawKind) (t : List ℕ) → is_raw k ≡ true → has_references k ≡ false → is_among_texts (texts_in (raw_content k)) t ≡ true → IsUtf8 t
-    → (not (has_part (codes "</") t) ≡ true) × ((text : List Placed) → characters text ≡ chars t → may_end k (pushed text []) ≡ true)
+    → (not (has_part (codes "</") t) ≡ true) × ((text : List Placed) → characters text ≡ chars t → may_end k (backwards [] text) ≡ true)
 ends_raw kind.Rawtext t r n among u = (among, λ text e. refl)
 ends_raw kind.Script t r n among u =
     let both = and_parts (not (has_part (codes "</") t)) (not (has_part (codes "<!--") t)) among in
@@ -145,12 +147,12 @@ module _ (table : Entities) (is_table : IsTable table) (core : HasCore table) (h
 
   -- and without
   raw_inner : (name : List ℕ) (l : Forest (List ℕ)) (attrs : List (Attribute (List ℕ))) (which : Texts) → is_raw (raw_kind (tag_named name)) ≡ true → has_references (raw_kind (tag_named name)) ≡ false → IsElementName name → StartTag table is_table core how name attrs
-      → (o : OneText how which l) → not (has_part (codes "</") o.t) ≡ true → ((text : List Placed) → characters text ≡ chars o.t → may_end (raw_kind (tag_named name)) (pushed text []) ≡ true)
+      → (o : OneText how which l) → not (has_part (codes "</") o.t) ≡ true → ((text : List Placed) → characters text ≡ chars o.t → may_end (raw_kind (tag_named name)) (backwards [] text) ≡ true)
       → Reads table (start_tag_text how name attrs ++ (written_among how true l ++ end_tag_text name)) (start name attrs false ∷ (plain_tokens texts l ++ end name ∷ []))
   raw_inner name l attrs which is no_refs is_name s o no_close may =
       raw_element name attrs (written_among how true l) (chars o.t) (plain_tokens texts l) is_name s (subst (λ (x : List ℕ). Spells x (chars o.t)) (sym o.raw_is) (spells_text o.t o.utf8 o.clean))
       (λ end_at text rest more e f. subst (λ (x : List (Token (List ℕ))). Cuts table end_at (after_start name) text rest x (EndsRaw name)) (sym o.tokens_are)
-      (led table end_at (after_start name) text rest (map (λ c. character c) (chars o.t)) (λ there. there ≡ pushed_on (after_start name) text) (EndsRaw name)
+      (led table end_at (after_start name) text rest (map (λ c. character c) (chars o.t)) (λ there. there ≡ after_characters (after_start name) text) (EndsRaw name)
       (λ there same. record {
         raw = ap (λ (x : Standing). is_raw x.kind) same ∙ is;
         may = ap (λ (x : Standing). may_end x.kind x.front) same ∙ may text e;
@@ -186,7 +188,7 @@ module _ (table : Entities) (is_table : IsTable table) (core : HasCore table) (h
       let o = one_text how within kids (rw e.0 refl) (ap (λ (x : Texts). is_among_texts x []) texts_are) u (h refl) in
       let ends = ends_raw k o.t refl refl (ap (λ (x : Texts). is_among_texts x o.t) (sym texts_are) ∙ o.among) o.utf8 in
       subst (λ (w : Bool). Element name attrs kids k w) (sym e.1)
-      (raw_inner name kids attrs within.texts (ap is_raw is_kind) (ap has_references is_kind) is_name s o ends.0 (λ text e. ap (λ (k : RawKind). may_end k (pushed text [])) is_kind ∙ ends.1 text e))
+      (raw_inner name kids attrs within.texts (ap is_raw is_kind) (ap has_references is_kind) is_name s o ends.0 (λ text e. ap (λ (k : RawKind). may_end k (backwards [] text)) is_kind ∙ ends.1 text e))
 
   again : (v : Bool) (name : List ℕ) (attrs : List (Attribute (List ℕ))) (kids rest : List (Token (List ℕ)))
       → (start name attrs false ∷ cond v [] (kids ++ end name ∷ [])) ++ rest ≡ start name attrs false ∷ cond v rest (kids ++ end name ∷ rest)
@@ -253,8 +255,8 @@ module _ (table : Entities) (is_table : IsTable table) (core : HasCore table) (h
   raw_context k l which is no_refs o =
       let s : Spells (written_among how true l) (chars o.t) = subst (λ (x : List ℕ). Spells x (chars o.t)) (sym o.raw_is) (spells_text o.t o.utf8 o.clean) in
       let bytes : List ℕ = written_among how true l in
-      whole_read Keep k bytes (chars o.t) (plain_tokens texts l) (λ there. there ≡ pushed_on (at_start k) (decoded_text Keep bytes)) s
-      (subst (λ (x : List (Token (List ℕ))). Cuts table (length bytes) (at_start k) (decoded_text Keep bytes) [] x (λ there. there ≡ pushed_on (at_start k) (decoded_text Keep bytes))) (sym o.tokens_are)
+      whole_read Keep k bytes (chars o.t) (plain_tokens texts l) (λ there. there ≡ after_characters (at_start k) (decoded_text Keep bytes)) s
+      (subst (λ (x : List (Token (List ℕ))). Cuts table (length bytes) (at_start k) (decoded_text Keep bytes) [] x (λ there. there ≡ after_characters (at_start k) (decoded_text Keep bytes))) (sym o.tokens_are)
       (raw_cuts table (length bytes) (chars o.t) (decoded_text Keep bytes) [] (at_start k) is no_refs (text_characters Keep bytes (chars o.t) s refl) (clean_text o.t o.utf8 o.clean) (no_end_of_none (decoded_text Keep bytes) [])))
 
   -- a context whose text is read raw holds one text
