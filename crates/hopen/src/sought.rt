@@ -111,21 +111,3 @@ pub(crate) fn level_of(last: &LastLevels, items: &[KeptNode], sought: Sought) ->
         Sought::Group(group) => set_level(last, items, NameSet::Group(group)),
     }
 }
-
-/// The nearest node that is sought, unless it is the topmost node.
-pub(crate) fn nearest_below_first(
-    last: &LastLevels,
-    items: &[KeptNode],
-    sought: Sought,
-) -> Option<Open>
-    requires stands { LevelsStand last.now items.now }
-    requires ends { EndsOpen (map opened_by items.now) }
-    ensures { option_map open_of result ≡ find (is_sought sought) (take (length (stack_of items.now) - 1) (stack_of items.now)) }
-{
-    let level = level_of(last, items, sought) as usize;
-    if level == 0 {
-        return None;
-    }
-    last_open(&items[..level - 1])?;
-    Some(items[level - 1].opened)
-}

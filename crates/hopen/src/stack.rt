@@ -1,7 +1,6 @@
 //! The stack of open elements (HTML Standard, `#the-stack-of-open-elements`).
 
 ghost use Rattle.std.specs.Prelude.{◌≡◌, ◌<◌, ◌≤◌, ◌+◌, ◌-◌, ◌^◌, ◌↔◌, ◌⊎◌, [], ◌∷◌, OnOk, OnErr, IfErr, length, drop, take, reverse, nat_eq, true};
-ghost use Rattle.std.specs.Prelude.{vec_capacity, vec_len};
 ghost use Rattle.std.specs.List.{find, list_all, slice_get};
 ghost use Rattle.std.specs.Option.{option_map};
 ghost use Rattle.hnodes.specs.Nearest.{after, without, changed, item_put_before};
@@ -14,7 +13,7 @@ use crate::kept::{KeptNode, LastLevels, append, replace};
 use crate::leaving::{pop, remove};
 use crate::name_sets::NameSet;
 use crate::scope::{Group, Scope};
-use crate::sought::{Sought, first_special, last_open, level_of, nearest_below_first, set_level};
+use crate::sought::{Sought, first_special, last_open, level_of, set_level};
 use hnodes::NodeId;
 use names::{NameId, Refusal};
 use std::alloc::{AllocError, Global};
@@ -162,8 +161,11 @@ impl OpenStack {
         }) }
         ensures err { OnErr result (self.new ≡ self.old) }
     {
+        if self.items.len() >= u32::MAX as usize {
+            return Err(AllocError);
+        }
         self.last.make_room(new.name, new.node)?;
-        one_more(&mut self.items)?;
+        self.items.reserve(1)?;
         exchange(&mut self.last, &mut self.items, leaving, above, new);
         Ok(())
     }
@@ -249,7 +251,12 @@ impl OpenStack {
     pub fn nearest_below_first(&self, group: Group) -> Option<Open>
         ensures { option_map open_of result ≡ find (is_of tag_of group) (take (length self.now.stack - 1) self.now.stack) }
     {
-        nearest_below_first(&self.last, &self.items, Sought::Group(group))
+        let level = level_of(&self.last, &self.items, Sought::Group(group)) as usize;
+        if level == 0 {
+            return None;
+        }
+        last_open(&self.items[..level - 1])?;
+        Some(self.items[level - 1].opened)
     }
 
     /// The open node right above a node; `None` if the node is the topmost or not open.
@@ -309,19 +316,4 @@ fn room(slots: usize, holes: u32, limit: u32, at: u64) -> Result<(), Refusal>
         return Err(Refusal::Memory);
     }
     Ok(())
-}
-
-/// Makes room for one more slot, if there may be one. On an error the slots stay.
-#[inline(always)]
-fn one_more(items: &mut Vec<KeptNode>) -> Result<(), AllocError>
-    ensures items { items.new.items ≡ items.old.items }
-    ensures ok { OnOk result ((vec_len items.new < vec_capacity items.new) × (vec_len items.new + 1 < 2 ^ 32)) }
-{
-    if items.len() >= u32::MAX as usize {
-        return Err(AllocError);
-    }
-    if items.len() < items.capacity() {
-        return Ok(());
-    }
-    items.reserve(1)
 }

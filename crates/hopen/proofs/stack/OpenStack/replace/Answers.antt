@@ -44,7 +44,8 @@ invariant_of-self-then-level-gt0 c =
 
 pub returns-in_ok-make_room-clause-ok : goal.returns-in_ok-make_room-clause-ok
 returns-in_ok-make_room-clause-ok c =
-    seen c.self.inside c.args.self.now (changed (is_node c.args.node) (λ _. open_of c.args.by)) (with_items c.self.inside.items c.replace.new.items).items c.self.view_is
+    seen c.self.inside c.args.self.now (changed (is_node c.args.node) (λ _. open_of c.args.by))
+    (with_items c.self.inside.items c.replace.new.items).items c.self.view_is
     (replaced (goal.at.returns-in_ok-make_room-clause-ok c).After-replace)
 
 pub returns-else-level-gt0-clause-ok : goal.returns-else-level-gt0-clause-ok
