@@ -1,7 +1,7 @@
 //! The items of the list of active formatting elements, with the holes that entries leave: nothing moves where one is removed.
 
 ghost use Rattle.std.specs.Prelude.{◌≡◌, ◌≢◌, suc, ◌+◌, ◌-◌, ◌<◌, ◌≤◌, ◌++◌, ◌∷◌, [], IfOk, IfSome, OnOk, OnErr, IsTrue, is_some, true, false, insert};
-ghost use Rattle.std.specs.Prelude.{Some, None, length, map, nat_eq, not, remove, slice_index, slice_index_or, slice_set, filter, take, drop};
+ghost use Rattle.std.specs.Prelude.{◌⊎◌, Some, None, length, map, nat_eq, not, remove, slice_index, slice_index_or, slice_set, filter, take, drop};
 ghost use Rattle.std.specs.List.{All, list_any};
 ghost use Rattle.std.specs.Option.{option_map_or};
 ghost use Rattle.hnodes.specs.IndexedList.{none};
@@ -141,6 +141,25 @@ impl Slots {
         place > marker
     }
 
+    /// Before an entry of a name comes: if that name has many, hashes the entries from now on. On an error nothing changes.
+    fn hash_if_crowded(
+        &mut self,
+        alloc: Global,
+        keys: &Keys,
+        name: NameId,
+    ) -> Result<(), AllocError>
+        requires listed { AreSlotsListed self.old }
+        ensures listed { AreSlotsListed self.new }
+        ensures items { self.new.items.items ≡ self.old.items.items }
+        ensures keys { (self.new.keys ≡ self.old.keys) ⊎ (self.new.keys ≡ Some keys.now) }
+    {
+        if self.keys.is_none() && self.is_crowded(name) {
+            self.hashes = hash_items(alloc, Some(*keys), &self.items)?;
+            self.keys = Some(*keys);
+        }
+        Ok(())
+    }
+
     /// Where the hash of each item is.
     fn by_hash(&self) -> &IndexedList
         requires { AreSlotsListed self.now }
@@ -204,10 +223,7 @@ impl Slots {
         if place <= self.names.last(MARKER) {
             return Ok((find_hash(alloc, self.keys, name, attrs)?, None));
         }
-        if self.keys.is_none() && self.is_crowded(name) {
-            self.hashes = hash_items(alloc, Some(*keys), &self.items)?;
-            self.keys = Some(*keys);
-        }
+        self.hash_if_crowded(alloc, keys, name)?;
         let hash = find_hash(alloc, self.keys, name, attrs)?;
         Ok((hash, self.giving_way(alloc, hash, name, attrs)?))
     }

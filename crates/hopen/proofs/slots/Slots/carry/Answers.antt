@@ -6,7 +6,8 @@ pub loop-index-init : goal.loop-index-init
 loop-index-init c = grind (arith, common_steps, insert-remove)
 
 -- there are as many as before
-carried : {X : Type 0} (old now : List X) (from i : ℕ) (x : X) → from < length old → i < length old → now ≡ insert (remove old from) i x → length now ≡ length old
+carried : {X : Type 0} (old now : List X) (from i : ℕ) (x : X) → from < length old → i < length old → now ≡ insert (remove old from) i x
+    → length now ≡ length old
 carried old now from i x low within is =
     let left = length-remove old from low in
     omega (arith, ap length is, length-insert (remove old from) i x (omega arith))

@@ -63,7 +63,8 @@ returns-clause-items c =
     let there = any-same c.args.mark (omega arith) old (items s) c.args.index near.result c.requires.listed.stored near.ensures.listed.stored near.ensures.rest
     ∙ c.requires.mark in
     ap live (ap listed_items c.carry.ensures.items
-    ∙ moved-after c.args.node c.args.mark (items s) near.result c.if-place-near.to c.set_node.new.self near.ensures.within (entry s) (renamed s) (placed s) there
+    ∙ moved-after c.args.node c.args.mark (items s) near.result c.if-place-near.to c.set_node.new.self near.ensures.within (entry s) (renamed s)
+    (placed s) there
     ∙ ap (λ x. item_put_before (is_entry c.args.mark) (for_node c.args.node (item_of x)) (listed_items (remove (items s) near.result))) near.ensures.entry)
     ∙ put-same c.args.mark (omega arith) old (items s) c.args.index near.result c.requires.listed.stored near.ensures.listed.stored
     near.ensures.rest c.args.node c.requires.entry c.requires.within
