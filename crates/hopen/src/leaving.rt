@@ -56,12 +56,6 @@ fn take_last(last: &mut LastLevels, items: &mut Vec<KeptNode>) -> Option<Open>
     Some(item.opened)
 }
 
-/// Whether there are two holes right above the current node.
-fn has_gap(items: &[KeptNode]) -> bool {
-    let len = items.len();
-    len > 2 && items[len - 2].kind.is_hole() && items[len - 3].kind.is_hole()
-}
-
 /// Takes away the holes at the end, and where there are two or more right above the current node, those. So what is right above it is found
 /// at once, however many have left from there.
 #[inline(never)]
@@ -76,7 +70,8 @@ fn tidy(last: &mut LastLevels, items: &mut Vec<KeptNode>)
     ensures capacity { vec_capacity items.old ≤ vec_capacity items.new }
 {
     trim(last, items);
-    if !has_gap(items) {
+    let len = items.len();
+    if len < 3 || !items[len - 2].kind.is_hole() || !items[len - 3].kind.is_hole() {
         return;
     }
     let Some(current) = take_last(last, items) else {
