@@ -72,7 +72,8 @@ replace-requires-clause-rests c =
 -- another has taken its place, right below the other
 module _ (c : After-replace) where
   replaced : (with_items (with_items c.args.items.now c.sink-index.new.items) c.replace.new.items).items ≡ c.replace.new.items
-  replaced = with_items_is (with_items c.args.items.now c.sink-index.new.items) c.replace.new.items (c.replace.auto.items ∙ c.deref_mut-then-index-to.ensures.len)
+  replaced = with_items_is (with_items c.args.items.now c.sink-index.new.items) c.replace.new.items
+      (c.replace.auto.items ∙ c.deref_mut-then-index-to.ensures.len)
 
 pub returns-then-index-to-clause-rests : goal.returns-then-index-to-clause-rests
 returns-then-index-to-clause-rests c =
@@ -92,7 +93,8 @@ returns-then-index-to-clause-items c =
     let next : c.sink-index.result + 1 ≡ suc to = omega (arith, at) in
     let place : last_place (holds_one (is_node c.args.above)) (reverse ys) ≡ suc to =
     sym (level-of _ _ c.requires.rests.stands _ _ c.of_node-2.ensures) ∙ (omega (arith, c.saturating_sub-to.ensures, c.if-from-to.true)) in
-    let equal : length zs ≡ length ys = length-map sunk opened_by ∙ c.sink-index.auto.items ∙ ap length c.deref_mut.ensures.value ∙ sym (length-map old opened_by) in
+    let equal : length zs ≡ length ys = length-map sunk opened_by ∙ c.sink-index.auto.items ∙ ap length c.deref_mut.ensures.value
+    ∙ sym (length-map old opened_by) in
     let below : drop (suc to) zs ≡ drop (suc to) ys = ap (λ k. drop k zs) (sym next) ∙ c.sink-index.ensures.below
     ∙ (λ t. drop (next t) (map opened_by (c.deref_mut.ensures.value t))) in
     grind (arith, common_steps, with_items_is, length-map, put-sunk, left-is, level-le, level-of, open-here, open-level)

@@ -49,14 +49,16 @@ rewind-requires-clause-numbers c =
     let put : c.insert.new.self.items ≡ insert left i c.new.result = search rules in
     let ys = map opened_by left in
     let all : AreIn last ys = stands-in last left c.remove.ensures.rests.stands in
-    let here : IsIn last (opened_by c.new.result) = subst (IsIn last) (sym c.new.ensures) (omega (arith, c.requires.new_in), omega (arith, c.requires.new_in)) in
+    let here : IsIn last (opened_by c.new.result) = subst (IsIn last) (sym c.new.ensures)
+    (omega (arith, c.requires.new_in), omega (arith, c.requires.new_in)) in
     in-as-long last c.unwind.new.last c.unwind.ensures.tables (map opened_by c.deref_mut.result.now)
     (subst (AreIn last) (sym (ap (map opened_by) (c.deref_mut.ensures.value ∙ put) ∙ map-insert opened_by left i c.new.result))
     (All-append (IsIn last) (take i ys) (opened_by c.new.result ∷ drop i ys) (All-take (IsIn last) i ys all)
     (All-cons (IsIn last) (opened_by c.new.result) (drop i ys) here (All-drop (IsIn last) i ys all))))
 
 -- what is open then
-opened : (c : After-rewind) → map opened_by c.rewind.new.items ≡ insert (map opened_by c.remove.new.items.items) c.of_node-level.result (Some (open_of c.args.new))
+opened : (c : After-rewind) → map opened_by c.rewind.new.items
+    ≡ insert (map opened_by c.remove.new.items.items) c.of_node-level.result (Some (open_of c.args.new))
 opened c =
     let put : c.insert.new.self.items ≡ insert c.remove.new.items.items c.of_node-level.result c.new.result = search rules in
     c.rewind.ensures.same ∙ ap (map opened_by) (c.deref_mut.ensures.value ∙ put)

@@ -46,7 +46,8 @@ returns-clause-stands c =
     (ap same_name_of (c.index-items-below-3.is ∙ get_or_default alike j sunk risen (omega (arith, p.within, c.swap_names.auto.items)))) in
     let sets : map sets_at new ≡ set (map sets_at items) i y.sets =
     two-upper sets_at alike i j a b sunk p.order (ap sets_at c.index-items-below-3.is) ∙ ap (λ l. set l i y.sets) rest.sets in
-    stands-passed last items i j c.requires.stands p c.index-items-index.result c.index-items-below.result c.index-items-index.is c.index-items-below.is _ new opened
+    stands-passed last items i j c.requires.stands p c.index-items-index.result c.index-items-below.result c.index-items-index.is
+    c.index-items-below.is _ new opened
     (moved items alike i j a b x y p.order p.within first second same_node_of 0 rest.same_nodes refl refl)
     (transport (λ t. IsLinked (sym (with_items_is last.names c.swap_names.new.names (c.swap_names.auto.names ∙ c.deref_mut.ensures.len)) t)
     (exchanged i j 0 (slot_names (map opened_by items))) (sym names t)) c.swap_names.ensures.linked)
@@ -54,6 +55,7 @@ returns-clause-stands c =
     ((c.index-2.ensures ∙ ap (λ (z : KeptNode). z.opened.node) (sym c.index-items-below.is)) t) (up t))
     (transport (λ t. KeepSets (sym opened t) (sym sets t))
     (sets-exchanged (map opened_by items) i j (open_of x.opened) (open_of y.opened) p.order (omega (arith, p.within, many)) p.holes
-    (opened-at items i x front first (p.upper x first).0) (opened-at items j y p.within second (p.lower y second).0) (p.upper x first).1 (map sets_at items) y.sets
+    (opened-at items i x front first (p.upper x first).0) (opened-at items j y p.within second (p.lower y second).0) (p.upper x first).1
+    (map sets_at items) y.sets
     (length-map items sets_at ∙ sym many) c.requires.stands.sets (sym (part-at sets_at y.sets items j y p.within second))))
     (moved items alike i j a b x y p.order p.within first second kept_kind_at kind.Hole rest.kinds refl refl) refl

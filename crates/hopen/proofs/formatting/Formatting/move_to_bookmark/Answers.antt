@@ -37,7 +37,8 @@ pub move_after-requires-clause-mark : goal.move_after-requires-clause-mark
 move_after-requires-clause-mark c =
     let s = (goal.at.move_after-requires-clause-mark c).After-last-index in
     mark-there (items s) c.self.invariant.stored c.args.from c.last-index.result (low s) (place s) (there s) c.in-After.mark (omega arith)
-    (ap (has_bookmark c.args.from (After c.in-After.mark)) c.self.view_is ∙ ap (λ (b : Bookmark). has_bookmark c.args.from b c.args.self.now) (sym c.in-After.is)
+    (ap (has_bookmark c.args.from (After c.in-After.mark)) c.self.view_is
+    ∙ ap (λ (b : Bookmark). has_bookmark c.args.from b c.args.self.now) (sym c.in-After.is)
     ∙ c.requires.bookmark)
 
 pub returns-in-After : goal.returns-in-After
