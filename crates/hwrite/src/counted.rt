@@ -3,7 +3,7 @@
 ghost use Rattle.std.specs.Prelude.{◌≡◌, true, Ok, is_ok};
 ghost use Rattle.std.specs.Result.{result_ok};
 ghost use Rattle.std.specs.Io.KnownBytes.{Keeps};
-ghost use Rattle.hwrite.specs.Vocabulary.{CalledOnce, ReadsCall, Writes, counted, counted_by, counted_unless, counted_failures, inner_of, taken_of};
+ghost use Rattle.hwrite.specs.Vocabulary.{CalledOnce, ReadsCall, Writes, counted_by, counted_unless, counted_failures, inner_of, taken_of};
 
 use crate::devices::{ReadDevice, WriteDevice};
 use hparse::Source;
@@ -31,13 +31,6 @@ impl<T> Counted<T> {
     {
         self.inner
     }
-
-    fn count_failure(&mut self)
-        ensures inner { inner_of self.new ≡ inner_of self.old }
-        ensures count { counted_failures self.new ≡ counted (counted_failures self.old) }
-    {
-        self.failures = self.failures.saturating_add(1);
-    }
 }
 
 impl<D: ReadDevice> Source for Counted<D> {
@@ -53,7 +46,7 @@ impl<D: ReadDevice> Source for Counted<D> {
         match self.inner.read_once(buffer) {
             Ok(count) => Some(count),
             Err(_) => {
-                self.count_failure();
+                self.failures = self.failures.saturating_add(1);
                 None
             }
         }
@@ -80,7 +73,7 @@ impl<D: WriteDevice> Target for Counted<D> {
         match self.inner.write_once(bytes) {
             Ok(count) if count > 0 || bytes.is_empty() => Some(count),
             _ => {
-                self.count_failure();
+                self.failures = self.failures.saturating_add(1);
                 None
             }
         }
@@ -94,7 +87,7 @@ impl<D: WriteDevice> Target for Counted<D> {
     {
         let is_flushed = self.inner.flush_once().is_ok();
         if !is_flushed {
-            self.count_failure();
+            self.failures = self.failures.saturating_add(1);
         }
         is_flushed
     }
