@@ -1,12 +1,12 @@
 -- A flat form is of one table only.
-use Rattle.charref.proofs.Names.{arith, ◌≡◌, ℕ, ◌≤◌, ◌<◌, true, not, ◌&&◌, ◌||◌, nat_le, nat_eq, ◌==◌, List, [], ◌∷◌, ◌++◌, length, Result, Ok, Err, inl, inr, refl, sym, ap, ◌∙◌, subst, append_assoc, and_parts, nat_tests, append-nil, list_all, flat_map, Refusal, TableFault, Memory, Entry, Entities, is_key, is_character, IsRefusedWith, is_one_or_two, flat_character, flat_characters, flat_entry, flat_of, IsReadable, is_count, ends_key, is_table_entry, BeginsWith, drop, take, suc, numbers_in, characters_in}
+use Rattle.charref.proofs.Names.{arith, ◌≡◌, ℕ, ◌≤◌, ◌<◌, true, not, ◌&&◌, ◌||◌, nat_le, nat_eq, ◌==◌, List, [], ◌∷◌, ◌++◌, length, Result, Ok, Err, inl, inr, refl, sym, ap, ◌∙◌, subst, append_assoc, and_parts, nat_tests, append-nil, list_all, flat_map, Refusal, TableFault, Entry, Entities, is_key, is_character, IsRefusedWith, is_one_or_two, flat_character, flat_characters, flat_entry, flat_of, IsReadable, is_count, ends_key, is_table_entry, BeginsWith, drop, take, suc, numbers_in, characters_in}
 use Rattle.std.proofs.Common.{◌^◌, IfOk, IfErr}
 use Rattle.std.proofs.lemmas.Nat.{from_le_bytes-to_le_bytes_4}
 use Rattle.std.proofs.lemmas.List.Concat.{flat_map-append}
 use Rattle.std.specs.Int.{w32, from_le_bytes}
 use Rattle.charref.specs.Flat.{IsRefusedFlat}
 use Rattle.std.proofs.Math.Seq.{drop-append_seam, take-append_seam}
-use Rattle.charref.proofs.Fronts.{name_size, key_size}
+use Rattle.charref.proofs.Fronts.{name_size, key_length}
 use Rattle.charref.proofs.Members.{are_entries}
 
 -- CHARACTERS
@@ -58,8 +58,8 @@ few cs is = let test : is_count (length cs) ≡ true = counted cs is in grind (a
 -- ENTRIES
 
 -- the bytes after the key of an entry
-pub after_key : (e : Entry) (r : List ℕ) → is_table_entry e ≡ true → ends_key (flat_characters e.stands_for ++ r) ≡ true
-after_key e r is = counted e.stands_for (and_parts (is_key e.key) _ is).1
+pub count_follows : (e : Entry) (r : List ℕ) → is_table_entry e ≡ true → ends_key (flat_characters e.stands_for ++ r) ≡ true
+count_follows e r is = counted e.stands_for (and_parts (is_key e.key) _ is).1
 
 pub same_entries : (e f : Entry) (r s : List ℕ) → is_table_entry e ≡ true → is_table_entry f ≡ true → flat_entry e ++ r ≡ flat_entry f ++ s → (e ≡ f) × (r ≡ s)
 same_entries e f r s p q is =
@@ -67,7 +67,7 @@ same_entries e f r s p q is =
     let f-ones : is_one_or_two f.stands_for ≡ true = (and_parts (is_key f.key) _ q).1 in
     let both : e.key ++ (flat_characters e.stands_for ++ r) ≡ f.key ++ (flat_characters f.stands_for ++ s) =
     sym (append_assoc e.key (flat_characters e.stands_for) r) ∙ is ∙ append_assoc f.key (flat_characters f.stands_for) s in
-    let sizes : length e.key ≡ length f.key = key_size e.key _ (and_parts (is_key e.key) _ p).0 (after_key e r p) ∙ ap (λ bs. suc (name_size (drop 1 bs))) both ∙ sym (key_size f.key _ (and_parts (is_key f.key) _ q).0 (after_key f s q)) in
+    let sizes : length e.key ≡ length f.key = key_length e.key _ (and_parts (is_key e.key) _ p).0 (count_follows e r p) ∙ ap (λ bs. suc (name_size (drop 1 bs))) both ∙ sym (key_length f.key _ (and_parts (is_key f.key) _ q).0 (count_follows f s q)) in
     let keys : e.key ≡ f.key = sym (take-append_seam e.key _) ∙ ap (λ n. take n (e.key ++ (flat_characters e.stands_for ++ r))) sizes ∙ ap (take (length f.key)) both ∙ take-append_seam f.key _ in
     let lists : length e.stands_for ∷ (flat_map flat_character e.stands_for ++ r) ≡ length f.stands_for ∷ (flat_map flat_character f.stands_for ++ s) =
     sym (drop-append_seam e.key _) ∙ ap (λ n. drop n (e.key ++ (flat_characters e.stands_for ++ r))) sizes ∙ ap (drop (length f.key)) both ∙ drop-append_seam f.key _ in
@@ -122,13 +122,6 @@ pub reads_table : (table : Entities) (bytes : List ℕ) (r : Result Entities Ref
 reads_table table bytes (Ok t) readable is found flat = one_table t table found readable (flat ∙ sym is)
 reads_table table bytes (Err e) readable is found flat = tt
 
-pub refuses_memory : (table : Entities) (bytes : List ℕ) (r : Result Entities Refusal) → IsReadable table → flat_of table ≡ bytes → IfErr r (IsRefusedFlat bytes) → IfErr r (λ e. e ≡ Memory)
-refuses_memory table bytes (Ok t) readable is refused = tt
-refuses_memory table bytes (Err e) readable is refused = elim refused [
-  | inl memory ↦ memory
-  | inr none ↦ absurd (none.1 table readable is)
-]
-
 pub reads_parsed : {E : Type 0} (parsed : Result Entities E) (table : Entities) (bytes : List ℕ) (r : Result Entities Refusal) → parsed ≡ Ok table → IsReadable table → flat_of table ≡ bytes
     → IfOk r IsReadable → IfOk r (λ t. flat_of t ≡ bytes) → IfOk r (λ t. parsed ≡ Ok t)
 reads_parsed parsed table bytes (Ok t) known readable is found flat = known ∙ ap Ok (sym (one_table t table found readable (flat ∙ sym is)))
@@ -137,4 +130,7 @@ reads_parsed parsed table bytes (Err e) known readable is found flat = tt
 pub refuses_parsed : (parsed : Result Entities TableFault) (table : Entities) (bytes : List ℕ) (r : Result Entities Refusal) → parsed ≡ Ok table → IsReadable table → flat_of table ≡ bytes
     → IfErr r (IsRefusedFlat bytes) → IfErr r (IsRefusedWith parsed)
 refuses_parsed parsed table bytes (Ok t) known readable is refused = tt
-refuses_parsed parsed table bytes (Err e) known readable is refused = subst (λ p. IsRefusedWith p e) (sym known) (refuses_memory table bytes (Err e) readable is refused)
+refuses_parsed parsed table bytes (Err e) known readable is refused = elim refused [
+  | inl memory ↦ subst (λ p. IsRefusedWith p e) (sym known) memory
+  | inr none ↦ absurd (none.1 table readable is)
+]

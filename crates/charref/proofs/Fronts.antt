@@ -87,16 +87,16 @@ only_name (c ∷ cs) rest is end =
 
 -- KEYS
 
-pub key_size : (key rest : List ℕ) → is_key key ≡ true → ends_key rest ≡ true → length key ≡ suc (name_size (drop 1 (key ++ rest)))
-key_size [] rest is end = absurd (true≢false (sym is))
-key_size (c ∷ cs) rest is end = ap suc (sym (only_name cs rest (and_parts _ _ is).1 end))
+pub key_length : (key rest : List ℕ) → is_key key ≡ true → ends_key rest ≡ true → length key ≡ suc (name_size (drop 1 (key ++ rest)))
+key_length [] rest is end = absurd (true≢false (sym is))
+key_length (c ∷ cs) rest is end = ap suc (sym (only_name cs rest (and_parts _ _ is).1 end))
 
 only_key : (bytes : List ℕ) → 1 ≤ length bytes → get_or bytes 0 0 ≡ 38 → 0 < prefix_len is_alphanumeric (drop 1 bytes) → IsOnlyKey bytes (suc (name_size (drop 1 bytes)))
 only_key [] some first letter = absurd (omega (arith, some))
 only_key (b ∷ bs) some first letter = record {
   within = omega (arith, size_within bs);
   passing = and_from (b == 38) _ (grind (arith, nat_tests, first)) (is_name bs letter);
-  only = λ key rest key-is end same. key_size key rest key-is end ∙ ap (λ bs. suc (name_size (drop 1 bs))) (sym same);
+  only = λ key rest key-is end same. key_length key rest key-is end ∙ ap (λ bs. suc (name_size (drop 1 bs))) (sym same);
 }
 
 -- by the run of letters and digits after the first byte

@@ -1,5 +1,5 @@
 -- A name that has been read: its key, or none.
-use Rattle.charref.proofs.Names.{arith, ◌≡◌, ℕ, zero, suc, ◌-◌, ◌≤◌, ◌<◌, Bool, true, false, true≢false, ◌||◌, ◌==◌, nat_eq, bytes_eq, bytes_eq-Decides, codes, List, [], ◌∷◌, ◌++◌, length, take, drop, slice_get, get_or, Some, refl, sym, ap, ◌∙◌, subst, take-append-drop, and_parts, and_from, nat_tests, starts_with, list_all, Placed, characters, begins, all, past, is_alphanumeric, Entry, Entities, IsTable, is_key, is_key_name, is_empty_list, ends_in_semicolon}
+use Rattle.charref.proofs.Names.{arith, ◌≡◌, ℕ, zero, suc, ◌-◌, ◌≤◌, ◌<◌, Bool, true, false, true≢false, ◌||◌, nat_eq, bytes_eq, bytes_eq-Decides, codes, List, [], ◌∷◌, ◌++◌, length, take, drop, slice_get, get_or, Some, refl, sym, ap, ◌∙◌, subst, take-append-drop, and_parts, and_from, nat_tests, starts_with, list_all, Placed, characters, begins, all, past, is_alphanumeric, Entry, Entities, IsTable, is_key, is_key_name, is_empty_list, ends_in_semicolon}
 use Rattle.std.proofs.Math.Seq.{drop-append_seam}
 -- under the name by which the crates above cite it
 pub use Rattle.names.proofs.Words.{all-append}
@@ -92,9 +92,7 @@ key_opens (c ∷ d ∷ cs) h =
     record { first = d; others = cs; is = ap (λ x. x ∷ d ∷ cs) amp; alphanumeric = (and_parts (is_alphanumeric d) _ (and_parts _ _ h).1).0 }
 
 pub key_size : (key : List ℕ) → is_key key ≡ true → 2 ≤ length key
-key_size [] is = absurd (true≢false (sym is))
-key_size (c ∷ []) is = absurd (true≢false (sym (and_parts (c == 38) false is).1))
-key_size (c ∷ d ∷ cs) is = omega arith
+key_size key is = omega (arith, ap length (key_opens key is).is)
 
 pub some_key : (table : Entities) (k : ℕ) (e : Entry) → IsTable table → slice_get table k ≡ Some e → 2 ≤ length e.key
 some_key table k e is_table h = key_size e.key (is_key_of table k e is_table h)

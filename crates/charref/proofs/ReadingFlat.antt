@@ -9,7 +9,7 @@ use Rattle.std.proofs.lemmas.List.Elements.{All-push}
 use Rattle.charref.proofs.Naming.{key_size}
 use Rattle.charref.proofs.Members.{readable_from, are_entries}
 use Rattle.charref.proofs.Orders.{last_key, last_key-more, sorted_more, last_below}
-use Rattle.charref.proofs.Forms.{flat_more, read_characters, after_key, same_entries, Rest, rest_of, tail_of}
+use Rattle.charref.proofs.Forms.{flat_more, read_characters, count_follows, same_entries, Rest, rest_of, tail_of}
 
 -- CHARACTERS
 
@@ -34,12 +34,12 @@ no_second bytes two none (c ∷ d ∷ e ∷ es) rest is same = (let many : get_o
 
 pub no_entry_key : (bytes : List ℕ) → HasNoKey bytes → BeginsWithNone is_table_entry flat_entry bytes
 no_entry_key bytes none e rest is same =
-    none e.key (flat_characters e.stands_for ++ rest) (and_parts (is_key e.key) _ is).0 (after_key e rest is) (same ∙ append_assoc e.key (flat_characters e.stands_for) rest)
+    none e.key (flat_characters e.stands_for ++ rest) (and_parts (is_key e.key) _ is).0 (count_follows e rest is) (same ∙ append_assoc e.key (flat_characters e.stands_for) rest)
 
 pub no_entry_characters : (bytes : List ℕ) (n : ℕ) → IsOnlyKey bytes n → BeginsWithNone is_one_or_two flat_characters (drop n bytes) → BeginsWithNone is_table_entry flat_entry bytes
 no_entry_characters bytes n key none e rest is same =
     let split : bytes ≡ e.key ++ (flat_characters e.stands_for ++ rest) = same ∙ append_assoc e.key (flat_characters e.stands_for) rest in
-    let own : length e.key ≡ n = key.only e.key (flat_characters e.stands_for ++ rest) (and_parts (is_key e.key) _ is).0 (after_key e rest is) split in
+    let own : length e.key ≡ n = key.only e.key (flat_characters e.stands_for ++ rest) (and_parts (is_key e.key) _ is).0 (count_follows e rest is) split in
     none e.stands_for rest (and_parts (is_key e.key) _ is).1 (ap (drop n) split ∙ ap (λ k. drop k (e.key ++ (flat_characters e.stands_for ++ rest))) (sym own) ∙ drop-append_seam e.key _)
 
 some_count : (cs : List ℕ) → is_one_or_two cs ≡ true → 1 ≤ length cs

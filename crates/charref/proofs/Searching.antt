@@ -1,16 +1,13 @@
 -- A search, byte by byte.
-use Rattle.charref.proofs.Names.{arith, ◌≡◌, ℕ, ◌+◌, ◌-◌, ◌≤◌, ◌<◌, ◌==◌, true, false, true≢false, nat_eq, List, [], ◌∷◌, ◌++◌, length, slice_get, Some, None, refl, sym, ap, ◌∙◌, subst, length-append, and_parts, nat_tests, slice_get_within, starts_with, some_same, Search, Entry, Entities, longest, is_key, best_entry, IsSortedTable, IsRange, IsRising, IsParted, IsOver, EntryGoesOn, SearchHasRead}
+use Rattle.charref.proofs.Names.{arith, ◌≡◌, ℕ, ◌+◌, ◌-◌, ◌≤◌, ◌<◌, true, false, nat_eq, List, [], ◌∷◌, ◌++◌, length, slice_get, Some, None, refl, sym, ap, ◌∙◌, subst, length-append, slice_get_within, starts_with, some_same, Search, Entry, Entities, longest, is_key, best_entry, IsSortedTable, IsRange, IsRising, IsParted, IsOver, EntryGoesOn, SearchHasRead}
 use Rattle.charref.proofs.Keys.{whole, no_longer, begins_itself, longest-whole, longest-more, longest-none, longest-over}
-use Rattle.charref.proofs.Naming.{is_key_of}
+use Rattle.charref.proofs.Naming.{is_key_of, key_opens}
 use Rattle.charref.proofs.Ranges.{range_rises, rises_later, range_more, range_over, only_first, within, inside}
 
 -- Every key begins with the `&`, and no key is the `&` alone.
 begins_with_ampersand : (key : List ℕ) → is_key key ≡ true → (starts_with nat_eq key (38 ∷ []) ≡ true) × (starts_with nat_eq (38 ∷ []) key ≡ false) × (starts_with nat_eq [] key ≡ false)
-begins_with_ampersand [] is = absurd (true≢false (sym is))
-begins_with_ampersand (c ∷ []) is = absurd (true≢false (sym (and_parts _ _ is).1))
-begins_with_ampersand (c ∷ d ∷ ds) is =
-    let first : c ≡ 38 = (let test : (c == 38) ≡ true = (and_parts _ _ is).0 in grind (arith, nat_tests)) in
-    subst (λ x. (starts_with nat_eq (x ∷ d ∷ ds) (38 ∷ []) ≡ true) × (starts_with nat_eq (38 ∷ []) (x ∷ d ∷ ds) ≡ false) × (starts_with nat_eq [] (x ∷ d ∷ ds) ≡ false)) (sym first) (refl, refl, refl)
+begins_with_ampersand key is =
+    subst (λ k. (starts_with nat_eq k (38 ∷ []) ≡ true) × (starts_with nat_eq (38 ∷ []) k ≡ false) × (starts_with nat_eq [] k ≡ false)) (sym (key_opens key is).is) (refl, refl, refl)
 
 pub read_nothing : (table : Entities) (high : ℕ) → IsSortedTable table → high ≡ length table → SearchHasRead (record { depth = 0; low = 0; high = high; best = None }) table []
 read_nothing table high sorted all = record {
