@@ -1,5 +1,5 @@
 -- Runs of pending characters: one that is kept, and white space that is put as one text.
-use Rattle.hmodes.proofs.Vocabulary.{◌≡◌, inl, ℕ, Bool, true, false, List, [], ◌∷◌, ◌++◌, ◌+◌, ◌<◌, ◌==◌, ◌&&◌, if◌then◌else◌, not, length, Option, Some, None, Result, Ok, Err, refl, sym, ◌∙◌, ap, subst, arith, nat_tests, and_parts, false≢true, list_all, placed, characters, Placed, is_space, len_utf8, encode_utf8, chars, IsUtf8, chars_past_char, StartsAt, slice_get, Hands, Refusal, Memory, TooManyNodes, run_tokens, Place, add_char, text_before, nat_le, is_none, numbers, put_each, Outcome, Goes, SiteOf, and_then, each_of, perform, flow_of, with_site, with_control, State, Flow, character, Char, flow_then, step_begun, put, other_in_table, pending_rule, Building, TakesToken, refused_by, AreSome, char_rule, is_for_text, keeps, pends_each, takes_char, Mode, InTableText, Alone}
+use Rattle.hmodes.proofs.Vocabulary.{◌≡◌, inl, ℕ, Bool, true, false, List, [], ◌∷◌, ◌++◌, ◌+◌, ◌<◌, ◌==◌, ◌&&◌, if◌then◌else◌, not, length, Option, Some, None, Result, Ok, Err, refl, sym, ◌∙◌, ap, subst, arith, nat_tests, and_parts, false≢true, list_all, placed, characters, Placed, is_space, len_utf8, encode_utf8, chars, IsUtf8, chars_past_char, StartsAt, slice_get, Hands, Refusal, Memory, TooManyNodes, run_tokens, Place, add_char, text_before, nat_le, is_none, numbers, put_each, Outcome, Goes, SiteOf, and_then, each_of, perform, flow_of, with_site, with_control, State, Flow, character, Char, flow_then, step_begun, put, other_in_table, Building, TakesToken, refused_by, AreSome, char_rule, is_for_text, keeps, pends_each, takes_char, Mode, InTableText, Alone}
 use Rattle.std.specs.Prelude.{OnOk, IfErr, encode_utf8_all}
 use Rattle.std.specs.Str.{IsAscii}
 use Rattle.std.proofs.lemmas.List.{append_assoc, append-nil}
@@ -130,11 +130,3 @@ abbrev pub pending_put : List Placed → State ℕ → Flow ℕ
 pending_put cs s =
     if list_all (λ c. is_space c.ch) cs then each_of (λ c. perform numbers c.at (character c.ch) put) cs s
     else each_of (λ c. perform numbers c.at (character c.ch) (other_in_table Char)) cs s
-
-pub all_by_rule : (spaces : Bool) (cs : List Placed) (s : State ℕ) → spaces ≡ list_all (λ c. is_space c.ch) cs → pending_put cs s ≡ each_of (λ c. perform numbers c.at (character c.ch) (pending_rule spaces)) cs s
-all_by_rule spaces cs s is = by_answer (list_all (λ c. is_space c.ch) cs) ∙ ap (λ (v : Bool). each_of (λ c. perform numbers c.at (character c.ch) (pending_rule v)) cs s) (sym is)
-  where
-    by_answer : (v : Bool) → (if v then each_of (λ c. perform numbers c.at (character c.ch) put) cs s else each_of (λ c. perform numbers c.at (character c.ch) (other_in_table Char)) cs s)
-        ≡ each_of (λ c. perform numbers c.at (character c.ch) (pending_rule v)) cs s
-    by_answer true = refl
-    by_answer false = refl
