@@ -4,7 +4,7 @@ use Rattle.hnodes.proofs.Forests.{times-cut, children-apart}
 use Rattle.hnodes.proofs.Whats.{times-what}
 use Rattle.hnodes.proofs.Counts.{emptied}
 use Rattle.hnodes.proofs.Deep.{deep, deep-join, deep-upper, deep-is, children-deep}
-use Rattle.hnodes.proofs.DeepEdits.{deep-cut, deep-cut-apart, deep-hung, deep-hung-apart, deep-hung-below, deep-put, deep-put-apart, deep-put-below, deep-emptied, deep-emptied-apart}
+use Rattle.hnodes.proofs.DeepEdits.{deep-cut, deep-cut-apart, deep-hung, deep-hung-apart, deep-hung-below, deep-put, deep-put-apart, deep-put-below, deep-emptied-apart}
 use Rattle.hnodes.proofs.Counted.{NotBefore, at-most, is-there, counted-move}
 
 module _ {N : Type 0} where

@@ -1,5 +1,5 @@
 -- A forest under other names.
-use Rattle.hnodes.proofs.Names.{arith, ◌≡◌, ℕ, ◌+◌, [], ◌∷◌, map, Option, Some, None, refl, sym, ◌∙◌, ap, option_and_then, map-append, option_map, Attribute, What, document, doctype, element, text, Forest, none, tree, join, tree_at, cut, children_of, change_children, change_what, put_before, Spot, first_or, last_or, spot_below, spot_of, either_of, last_child_of, previous_of, what_of, kind_in, name_in, attributes_in, text_in, doctype_in, Nodes, graft, graft_last, graft_before, move_all, with_attribute, with_char, text_before, char_into, Place, LastIn, Before}
+use Rattle.hnodes.proofs.Names.{arith, ◌≡◌, ℕ, ◌+◌, [], ◌∷◌, map, Option, Some, None, refl, sym, ◌∙◌, ap, option_and_then, map-append, option_map, Attribute, What, document, element, Forest, none, tree, join, tree_at, cut, children_of, change_children, change_what, put_before, Spot, first_or, last_or, spot_below, spot_of, either_of, last_child_of, previous_of, what_of, kind_in, name_in, attributes_in, text_in, doctype_in, Nodes, graft, graft_last, graft_before, move_all, with_attribute, with_char, text_before, char_into, Place, LastIn, Before}
 use Rattle.std.proofs.lemmas.Iterator.Adapters.{option_map_id}
 use Rattle.hnodes.specs.Mapped.{mapped_attribute, mapped_what, mapped, mapped_nodes, mapped_spot, EditsKnowNoNames, QuestionsKnowNoNames}
 
