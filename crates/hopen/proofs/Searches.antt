@@ -1,5 +1,6 @@
 -- Searches that go up the open nodes, in the words of the code.
-use Rattle.hopen.proofs.Names.{common_steps, ◌≡◌, ℕ, suc, ◌-◌, ◌+◌, inl, inr, Bool, true, false, List, [], ◌∷◌, ◌++◌, Option, Some, None, length, drop, take, map, reverse, refl, sym, ◌∙◌, ap, arith, cases_lt, nat_eq, nat_tests, zero-add, position, find, list_all, list_all-append, option_or, words, no_words, reverse-append, OpenNode, current, topmost_special, furthest_block, is_node, Tag, is_special, may_stay_open, before, after, take_nearest, drop_nearest, tag_of, somes, slots_of, stack_of, holds_one, opened_by, closing, kept_kind, sum_by, sum_by-cons, last_place, KeptNode, LastLevels, LevelsStand, position-none}
+use Rattle.hopen.proofs.Names.{◌≡◌, ℕ, suc, ◌-◌, ◌+◌, inl, inr, Bool, true, false, List, [], ◌∷◌, ◌++◌, Option, Some, None, length, drop, take, map, reverse, refl, sym, ◌∙◌, ap, arith, cases_lt, nat_eq, nat_tests, zero-add, position, find, list_all, list_all-append, option_or, words, no_words, reverse-append, OpenNode, current, topmost_special, furthest_block, is_node, Tag, is_special, may_stay_open, before, after, take_nearest, drop_nearest, tag_of, somes, slots_of, stack_of, holds_one, opened_by, closing, kept_kind, sum_by, sum_by-cons, last_place, KeptNode, LastLevels, LevelsStand, position-none, ◌&&◌, if◌then◌else◌}
+use Rattle.hopen.specs.declared.kept.Kind.TheVariants as kind
 use Rattle.hopen.proofs.OpenLevels.{placed}
 use Rattle.hopen.proofs.Somes.{after-somes, before-somes, reverse-somes}
 
@@ -90,7 +91,11 @@ module _ {X : Type 0} (q : X → Bool) where
 -- where nothing is above the nearest, or where something is
 module _ (q : OpenNode ℕ → Bool) (items : List KeptNode) (level : ℕ) (at : level ≡ last_place (holds_one q) (slots_of items)) where
   pub topmost-found : current (stack_of (take (level - 1) items)) ≡ None → find q (take (length (stack_of items) - 1) (stack_of items)) ≡ None
-  topmost-found e = grind (arith, common_steps, nat_tests, above-level, last-sought)
+  topmost-found e = go (stack_of (take (level - 1) items)) (above-level q items level at) e
+    where
+      go : (xs : List (OpenNode ℕ)) → xs ≡ after q (stack_of items) → current xs ≡ None → find q (take (length (stack_of items) - 1) (stack_of items)) ≡ None
+      go [] is e = last-sought q (stack_of items) (sym is)
+      go (x ∷ xs) is e = absurd (grind arith)
 
   pub below-found : (x : OpenNode ℕ) → current (stack_of (take (level - 1) items)) ≡ Some x
       → find q (take (length (stack_of items) - 1) (stack_of items)) ≡ find q (stack_of items)
@@ -113,8 +118,18 @@ furthest-level n items level at =
 closing-all : (ys : List (Option (OpenNode ℕ))) → nat_eq (sum_by closing (map kept_kind ys)) 0 ≡ list_all (λ x. may_stay_open (tag_of x.name)) (somes ys)
 closing-all [] = refl
 closing-all (None ∷ ys) = closing-all ys
-closing-all (Some y ∷ ys) = grind (arith, common_steps, nat_tests, nat_tests, sum_by-cons, zero-add, closing-all ys)
+closing-all (Some y ∷ ys) =
+    ap (λ k. nat_eq k 0) (sum_by-cons closing (kept_kind (Some y)) (map kept_kind ys)) ∙ go (may_stay_open (tag_of y.name)) (closing-all ys)
+  where
+    go : (v : Bool) → nat_eq (sum_by closing (map kept_kind ys)) 0 ≡ list_all (λ x. may_stay_open (tag_of x.name)) (somes ys)
+        → nat_eq (closing (if v then kind.MayStay else kind.MustClose) + sum_by closing (map kept_kind ys)) 0
+        ≡ (v && list_all (λ x. may_stay_open (tag_of x.name)) (somes ys))
+    go true rest = ap (λ k. nat_eq k 0) (zero-add (sum_by closing (map kept_kind ys))) ∙ rest
+    go false rest = grind (arith, nat_tests)
 
 pub all-stay : (last : LastLevels) (items : List KeptNode) → LevelsStand last items → nat_eq last.must_close 0
     ≡ list_all (λ x. may_stay_open (tag_of x.name)) (stack_of items)
-all-stay last items s = grind (arith, common_steps, nat_tests, all-reverse, closing-all, reverse-somes)
+all-stay last items s =
+    let p : OpenNode ℕ → Bool = λ x. may_stay_open (tag_of x.name) in
+    ap (λ k. nat_eq k 0) (s.closes ∙ ap (sum_by closing) s.kinds) ∙ closing-all (map opened_by items)
+    ∙ sym (ap (list_all p) (reverse-somes (map opened_by items)) ∙ all-reverse p (somes (map opened_by items)))

@@ -1,4 +1,4 @@
-use Rattle.hopen.proofs.Names.{common_steps, [], ◌≡◌, ℕ, ◌+◌, List, Some, None, ◌∷◌, ◌++◌, length, map, take, get_or, get_or_append_left, get_or_push, subst, ap, ◌∙◌, arith, take-append-le, length-map, map-append, length-append, sum_by_push, LevelsTo, LastLevels, opened_by, KeptNode, Open, open_of, IsBelow, reverse, stack_of, somes}
+use Rattle.hopen.proofs.Names.{[], ◌≡◌, ℕ, ◌+◌, List, Some, None, ◌∷◌, ◌++◌, length, map, take, get_or, get_or_append_left, get_or_push, reverse, subst, sym, ap, ◌∙◌, arith, take-append-le, length-map, map-append, length-append, sum_by, sum_by_push, gap, Rests, LevelsTo, LastLevels, opened_by, stack_of, somes, KeptNode, Open, open_of, IsBelow}
 use Rattle.hopen.proofs.Held.{below-held, some≢none}
 use Rattle.hopen.proofs.Standing.{below-front, levels-front, stack-more, stands-to, to-stands}
 use Rattle.hopen.proofs.Trimmed.{stack-holes}
@@ -50,7 +50,24 @@ returns-clause-rests c =
     let long : length new ≡ n + 1 = grind (arith, length-map, same, grown) in
     let over : length (map opened_by items) ≡ n = grind (arith, length-map, before) in
     let ys : map opened_by new ≡ map opened_by items ++ opened_by x ∷ [] = same ∙ map-append opened_by items (x ∷ []) in
-    grind (arith, common_steps, get_or_push, map-append, sum_by_push, some≢none, to-stands, stack-holes, written_back)
+    subst (Rests last) (sym (written_back new _ _ _ c.enter.ensures.same c.deref_mut.ensures.value c.deref_mut.ensures.len)) (record {
+      stands = to-stands last new (n + 1) (sym long) c.enter.ensures.stands;
+      ends = λ k is. some≢none (open_of x.opened) (get_or (map opened_by new) k None) (ap (λ zs. get_or zs k None) ys
+          ∙ get_or_push (map opened_by items) (opened_by x) None k (over ∙ omega (arith, is, long, length-map new opened_by)) ∙ held);
+      holes = omega (
+        arith,
+        c.requires.rests.holes,
+        c.enter.ensures.tables.holes,
+        ap (sum_by gap) ys,
+        sum_by_push gap (map opened_by items) (opened_by x),
+        ap gap held,
+        stack-holes items,
+        stack-holes new,
+        long,
+        before,
+      );
+      levels = omega (arith, long, before, c.requires.levels);
+    })
 
 pub returns-clause-ok : goal.returns-clause-ok
 returns-clause-ok c =
