@@ -36,3 +36,4 @@ pub mod Passed
 pub mod Searches
 pub mod SetLevel
 pub mod Opened
+pub mod Ends

@@ -1,4 +1,5 @@
-use Rattle.hopen.proofs.Names.{◌≡◌, ℕ, suc, ◌+◌, ◌-◌, ◌∷◌, None, Some, length, refl, ◌∙◌, ap, nat_eq, arith, EntryOf, entry, pushed, hole, item_of, listed_items, live, changed_at, set_nearest}
+use Rattle.hopen.proofs.Holes.{unless}
+use Rattle.hopen.proofs.Names.{◌≡◌, ℕ, suc, ◌+◌, ◌-◌, ◌∷◌, None, Some, length, refl, ◌∙◌, ap, nat_eq, arith, EntryOf, entry, pushed, hole, item_of, listed_items, live, changed_at, set_nearest, List, Attribute, entry_hash}
 use Rattle.hopen.specs.declared.entry.Slot.TheVariants as stored
 use Rattle.hopen.proofs.ItemLists.{items_of_last, length-items_of}
 use Rattle.hopen.proofs.Pushed.{pushed-live}
@@ -33,3 +34,17 @@ returns-in_default-clause-ok c =
     in
     ap live put ∙ pushed-live new (omega arith) (listed_items old) None room ∙ ap (pushed nat_eq new)
     (ap (λ xs. live (listed_items xs)) c.prepare.ensures.items ∙ c.make_room.ensures.same ∙ c.self.view_is)
+
+pub put-requires-clause-stored : goal.put-requires-clause-stored
+put-requires-clause-stored c = (omega arith, omega arith)
+
+pub put-requires-clause-name : goal.put-requires-clause-name
+put-requires-clause-name c = c.name_number.ensures ∙ unless c.args.name c.args.name (omega arith)
+
+pub put-requires-clause-hash : goal.put-requires-clause-hash
+put-requires-clause-hash c =
+    let hash = λ (xs : List (Attribute ℕ)). entry_hash c.prepare.new.self.keys (record { node = 0; name = c.args.name; attrs = xs }) in
+    c.in_ok-hash.ensures.hash ∙ ap (λ xs. suc (suc (hash xs))) c.as_slice.ensures ∙ unless c.args.name (hash c.args.attrs) (omega arith)
+
+pub put-requires-clause-node : goal.put-requires-clause-node
+put-requires-clause-node c = c.node_number.ensures ∙ unless c.args.name c.args.node (omega arith)
