@@ -1,10 +1,6 @@
 -- Lines that are put together of parts.
 use Rattle.hserialize.proofs.Names.{◌≡◌, ℕ, suc, ◌+◌, ◌-◌, ◌<◌, ◌≤◌, ◌&&◌, false, cond, List, [], ◌∷◌, ◌++◌, length, drop, get_or, map, sym, ap, ◌∙◌, arith, append_assoc, flat_map, repeat, codes, Attribute, attribute_line, indented, pair_of, drop-cons, add-one, Bor, between_quotes, identifiers, is_empty_text}
 
--- the lines from an index on, by the first of them
-pub next_lines : {A : Type 0} (f : A → List ℕ) (xs : List A) (i : ℕ) (d : A) → i < length xs → flat_map f (drop i xs) ≡ f (get_or xs i d) ++ flat_map f (drop (i + 1) xs)
-next_lines f xs i d h = ap (flat_map f) (drop-cons xs i d h ∙ (λ k. get_or xs i d ∷ drop (sym (add-one i) k) xs))
-
 -- a line by its spaces: at first, after two more, and at the end
 pub first_level : (depth : ℕ) (words : List ℕ) → indented depth words ≡ codes "| " ++ (repeat (depth - 0) (codes "  ") ++ (words ++ codes "\n"))
 first_level depth words =

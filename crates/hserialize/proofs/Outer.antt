@@ -1,9 +1,9 @@
 -- A node with its own tags.
-use Rattle.hserialize.proofs.Names.{◌≡◌, ℕ, ◌<◌, ◌≤◌, ◌⊎◌, inl, inr, Bool, true, false, cond, option_and_then, name_in, goes_in, closing_of, child-spot, at-most, List, [], ◌++◌, map, Some, refl, sym, ◌∙◌, ap, append-nil, option_map, AreNames, text_of, is_void, tag_of, tag_named, AreCounted, What, element, Forest, none, tree, times, tree_at, children_of, mapped, mapped_attribute, Spot, what_of, is-there, start_tag_text, end_tag_text, written, written_among, opening, opening_of, stands_raw, holds_raw, node_name, Escaping, root-spot, family, level, Here, Below, not, Written, closing_tag, name_around}
+use Rattle.hserialize.proofs.Names.{◌≡◌, mapped_what, ℕ, ◌<◌, ◌≤◌, ◌⊎◌, inl, inr, Bool, cond, option_and_then, name_in, goes_in, closing_of, child-spot, at-most, List, [], ◌++◌, Some, refl, sym, ◌∙◌, ap, append-nil, option_map, AreNames, text_of, tag_of, tag_named, AreCounted, What, element, Forest, none, tree, times, tree_at, children_of, mapped, Spot, what_of, is-there, written, written_among, opening, opening_of, stands_raw, holds_raw, node_name, Escaping, root-spot, family, level, Here, Below, Written, closing_tag, name_around}
 use Rattle.hserialize.specs.Vocabulary.{opening_in, closing_in, listed, outer_text}
 use Rattle.hserialize.specs.declared.serializer.Listing.{Listing}
 use Rattle.hserialize.proofs.KnownNames.{tags-agree}
-use Rattle.hserialize.proofs.Wrote.{own-written, stands-own}
+use Rattle.hserialize.proofs.Wrote.{node-parts, own-written, stands-own}
 
 -- a node's tree begins with what it is
 what-there : (n : ℕ) (f : Forest ℕ) (one : times n f ≡ 1) → ((b : ℕ) → times b f ≤ 1) → what_of n f ≡ Some (family n f one).0
@@ -16,23 +16,15 @@ what-there n f one once = go (level n f one once)
     go (inl p) = ap (option_map (λ (s : Spot ℕ). s.what)) (root-spot n p.what p.left p.kids p.right f (once n) p.is) ∙ ap (λ w. Some w) (same p.what p.kids p.tree_is)
     go (inr p) = ap (option_map (λ (s : Spot ℕ). s.what)) (child-spot n p.parent p.what p.left p.kids p.right f p.one one p.is) ∙ ap (λ w. Some w) (same p.what p.kids p.tree_is)
 
+named-as : (texts : ℕ → List ℕ) (w : What ℕ) → name_in (mapped_what texts w) ≡ option_map texts (name_in w)
+named-as texts (element name attrs) = refl
+named-as texts _ = refl
+
 -- a node that a walk over what is written goes into or not: its opening, what is in it and its closing
 one-tree : (how : Escaping) (texts : ℕ → List ℕ) → ((id : ℕ) → tag_of id ≡ tag_named (texts id)) → (raw goes : Bool) (n : ℕ) (w : What ℕ) (kids : Forest ℕ) → goes_in Written w ≡ goes
     → written_among how raw (mapped texts (tree n w kids none)) ≡ opening how texts raw w ++ (cond goes (written how (option_map texts (name_in w)) (mapped texts kids)) [] ++ closing_tag texts w)
-one-tree how texts tags raw goes n (element name attrs) kids is =
-    append-nil _ ∙ ap (λ u. start_tag_text how (texts name) (map (mapped_attribute texts) attrs) ++ cond u [] (inner ++ end)) (ap is_void (sym (tags name)))
-    ∙ ap (λ t. start_tag_text how (texts name) (map (mapped_attribute texts) attrs) ++ t) (go (is_void (tag_of name)) ∙ ap (λ u. cond u inner [] ++ cond (is_void (tag_of name)) [] end) is)
-  where
-    inner : List ℕ
-    inner = written how (Some (texts name)) (mapped texts kids)
-
-    end : List ℕ
-    end = end_tag_text (texts name)
-
-    go : (u : Bool) → cond u [] (inner ++ end) ≡ cond (not u) inner [] ++ cond u [] end
-    go true = refl
-    go false = refl
-one-tree how texts tags raw goes n w kids is = ap (λ u. opening how texts raw w ++ (cond u (written how (option_map texts (name_in w)) (mapped texts kids)) [] ++ [])) is
+one-tree how texts tags raw goes n w kids is =
+    append-nil _ ∙ node-parts how texts tags raw w _ ∙ (λ i. opening how texts raw w ++ (cond (is i) (written how (named-as texts w i) (mapped texts kids)) [] ++ closing_tag texts w))
 
 -- a node is its opening, what is in it and its closing
 pub outer-parts : (l : Listing) (goes : Bool) → AreNames l.names.now → AreCounted l.tree.now.made l.tree.now.trees → l.root < l.tree.now.made → l.raw ≡ holds_raw (node_name l.root l.tree.now.trees)

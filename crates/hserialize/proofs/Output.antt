@@ -103,9 +103,9 @@ passed_over old new bytes (Ok _) none none' name count all why beginning =
 passed_over old new bytes (Err e) none none' name count all why beginning =
     record { why = why; name = name; beginning = subst (AppendsBeginning old.bytes new.bytes) (ap (λ l. l ++ bytes) (sym none)) beginning; failed = count }
 
--- the next of some parts
-pub next_part : (parts : List (Bor (List ℕ))) (i : ℕ) (d : Bor (List ℕ)) → i < length parts → all_parts (drop i parts) ≡ (get_or parts i d).now ++ all_parts (drop (i + 1) parts)
-next_part parts i d h = ap all_parts (drop-cons parts i d h ∙ (λ k. get_or parts i d ∷ drop (sym (add-one i) k) parts))
+-- what is written from an index on, by the first of it
+pub next_lines : {A : Type 0} (f : A → List ℕ) (xs : List A) (i : ℕ) (d : A) → i < length xs → flat_map f (drop i xs) ≡ f (get_or xs i d) ++ flat_map f (drop (i + 1) xs)
+next_lines f xs i d h = ap (flat_map f) (drop-cons xs i d h ∙ (λ k. get_or xs i d ∷ drop (sym (add-one i) k) xs))
 
 -- a text between bytes, as it is lent
 pub between : (before lent text after : List ℕ) → lent ≡ text → before ++ (lent ++ (after ++ [])) ≡ before ++ text ++ after

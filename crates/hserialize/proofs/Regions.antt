@@ -1,5 +1,5 @@
 -- A list is content of what it is in exactly if each of its regions is, and no form is in a form.
-use Rattle.hserialize.proofs.Names.{◌≡◌, ℕ, ◌<◌, Bool, true, false, not, cond, List, Some, None, refl, sym, ◌∙◌, and_parts, ap, arith, option_and_then, ◌&&◌, ◌||◌, Option, Texts, AreNames, text_of, tag_of, tag_named, Tag, AreCounted, What, element, Forest, none, tree, children_of, mapped, mapped_what, name_in, row, takes_role, Inside, are_plain_attributes, in_context, in_context_of, inside_node, is_form_element, is_nested, is_plain_node, inserts_marker, are_region_content, begins_region, in_region, without_form, is_phrasing, tag_at, tag_or_other, texts_at_top, top_content, visits, Content, Visit, option_map, are_content, are_content_if, begins_with_line_feed, drops_line_feed, is_plain, form_after, have_plain_regions, makes_form, Whole}
+use Rattle.hserialize.proofs.Names.{◌≡◌, ℕ, ◌<◌, Bool, true, false, not, cond, List, Some, None, refl, sym, ◌∙◌, and_parts, ap, arith, option_and_then, ◌&&◌, ◌||◌, Option, Texts, AreNames, text_of, tag_of, tag_named, Tag, AreCounted, What, element, Forest, none, tree, children_of, mapped, mapped_what, name_in, row, takes_role, Inside, are_plain_attributes, in_context_of, inside_node, is_form_element, is_nested, is_plain_node, inserts_marker, are_region_content, begins_region, in_region, without_form, is_phrasing, tag_at, tag_or_other, texts_at_top, top_content, visits, Content, Visit, option_map, are_content, are_content_if, begins_with_line_feed, drops_line_feed, is_plain, form_after, have_plain_regions, makes_form, Whole}
 use Rattle.hserialize.proofs.KnownNames.{tags-agree}
 use Rattle.hserialize.proofs.Runs.{walked}
 use Rattle.hserialize.proofs.Seen.{Seen, seen}
@@ -162,19 +162,19 @@ top_other c top h = ap is_other h ∙ go c
     go _ = refl
 
 -- a list is plain if its top region is content, and so are the others, and no form is in a form
-pub plain_is : (context : List ℕ) (t : Tag) (top : Content) (f : Forest (List ℕ)) → in_context_of (row t).1 (is_form_element t) ≡ in_context context → Some top ≡ top_content (row t).1
+pub plain_is : (context : List ℕ) (t : Tag) (top : Content) (f : Forest (List ℕ)) → t ≡ tag_named context → Some top ≡ top_content (row t).1
     → (are_region_content (in_region top) f && have_plain_regions (is_form_element t) f) ≡ is_plain context f
 plain_is context t top f named topmost =
     sym (by_regions (record { content = top; texts = texts_at_top top; in_a = false; in_button = false; in_form = is_form_element t }) f)
     ∙ ap (λ o. are_content_if (option_map (λ own. record { content = own; texts = texts_at_top own; in_a = false; in_button = false; in_form = is_form_element t }) o) f) topmost
-    ∙ ap (λ o. are_content_if o f) (sym (top_is (row t).1 (is_form_element t)) ∙ named)
+    ∙ ap (λ o. are_content_if o f) (sym (top_is (row t).1 (is_form_element t)) ∙ ap (λ u. in_context_of (row u).1 (is_form_element u)) named)
 
 -- what is left of the walk finds whether the list is plain
 abbrev pub IsFinding : (names : Texts) (f : Forest ℕ) (root : ℕ) (context : List ℕ) → Bool → List Visit → Type 0
 IsFinding names f root context = Finds (form_after (text_of names) f) (is_plain context (mapped (text_of names) (children_of root f)))
 
 pub begun : (names : Texts) (made : ℕ) (f : Forest ℕ) (root : ℕ) (top : Content) (context : List ℕ) (t : Tag) (in_form : Bool) (left items : List Visit) → AreNames names → AreCounted made f → root < made
-    → in_context_of (row t).1 (is_form_element t) ≡ in_context context → Some top ≡ top_content (row t).1 → true ≡ are_region_content (in_region top) (mapped (text_of names) (children_of root f)) → in_form ≡ is_form_element t
+    → t ≡ tag_named context → Some top ≡ top_content (row t).1 → true ≡ are_region_content (in_region top) (mapped (text_of names) (children_of root f)) → in_form ≡ is_form_element t
     → left ≡ items → items ≡ visits Whole (children_of root f) → IsFinding names f root context in_form left
 begun names made f root top context t in_form left items table counted h named topmost region begins same visited =
     let g = mapped (text_of names) (children_of root f) in
@@ -184,12 +184,12 @@ begun names made f root top context t in_form left items table counted h named t
     (finds (text_of names) (tags-agree names table) f made root root (children_of root f) (seen made f counted root h) in_form ∙ ap (λ u. cond u (Some in_form) None) all)
 
 -- no list is plain where none is at the top
-pub none_plain : (context : List ℕ) (t : Tag) (f : Forest (List ℕ)) → in_context_of (row t).1 (is_form_element t) ≡ in_context context → top_content (row t).1 ≡ None → false ≡ is_plain context f
+pub none_plain : (context : List ℕ) (t : Tag) (f : Forest (List ℕ)) → t ≡ tag_named context → top_content (row t).1 ≡ None → false ≡ is_plain context f
 none_plain context t f named missing =
     ap (λ o. are_content_if (option_map (λ own. record { content = own; texts = texts_at_top own; in_a = false; in_button = false; in_form = is_form_element t }) o) f) (sym missing)
-    ∙ ap (λ o. are_content_if o f) (sym (top_is (row t).1 (is_form_element t)) ∙ named)
+    ∙ ap (λ o. are_content_if o f) (sym (top_is (row t).1 (is_form_element t)) ∙ ap (λ u. in_context_of (row u).1 (is_form_element u)) named)
 
 -- a top region that is not content
-pub not_plain : (context : List ℕ) (t : Tag) (top : Content) (f : Forest (List ℕ)) → in_context_of (row t).1 (is_form_element t) ≡ in_context context → Some top ≡ top_content (row t).1
+pub not_plain : (context : List ℕ) (t : Tag) (top : Content) (f : Forest (List ℕ)) → t ≡ tag_named context → Some top ≡ top_content (row t).1
     → false ≡ are_region_content (in_region top) f → false ≡ is_plain context f
 not_plain context t top f named topmost region = ap (λ u. u && have_plain_regions (is_form_element t) f) region ∙ plain_is context t top f named topmost

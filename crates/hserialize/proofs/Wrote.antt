@@ -27,6 +27,22 @@ stands-own n m f = go (parent_of m f)
     go None = refl
     go (Some p) = here p (eqb p n) refl
 
+module _ (how : Escaping) (texts : ℕ → List ℕ) (tags : (id : ℕ) → tag_of id ≡ tag_named (texts id)) (raw : Bool) where
+  -- a node is its opening, what is in it, where a walk over what is written goes into it, and its closing
+  pub node-parts : (w : What ℕ) (t : List ℕ) → node_text how raw (mapped_what texts w) t ≡ opening how texts raw w ++ (cond (goes_in Written w) t [] ++ closing_tag texts w)
+  node-parts (element name attrs) t = ap (λ u. start ++ cond u [] (t ++ end)) (ap is_void (sym (tags name))) ∙ ap (λ l. start ++ l) (go (is_void (tag_of name)))
+    where
+      start : List ℕ
+      start = start_tag_text how (texts name) (map (mapped_attribute texts) attrs)
+
+      end : List ℕ
+      end = end_tag_text (texts name)
+
+      go : (u : Bool) → cond u [] (t ++ end) ≡ cond (not u) t [] ++ cond u [] end
+      go true = refl
+      go false = refl
+  node-parts w t = sym (append-nil (opening how texts raw w))
+
 module _ (how : Escaping) (texts : ℕ → List ℕ) (f : Forest ℕ) (root : ℕ) (own : Bool) where
   -- what visits write
   abbrev pub visits_text : List Visit → List ℕ
@@ -38,7 +54,8 @@ module _ (how : Escaping) (texts : ℕ → List ℕ) (f : Forest ℕ) (root : �
         → opening_of how texts (stands_raw root own b f) (what_of b f) ++ (visits_text (cond (goes_in Written w) (visits Written kids) []) ++ closing_of texts (what_of b f))
         ≡ node_text how (raw_in root own p f) (mapped_what texts w) (written_among how (is_raw_in (name_in (mapped_what texts w))) (mapped texts kids))
     node-writes p b w kids rest s inner =
-        (λ i. opening_of how texts (begins i) (s.what i) ++ (visits_text (cond (goes_in Written w) (visits Written kids) []) ++ closing_of texts (s.what i))) ∙ go w s.what
+        (λ i. opening_of how texts (begins i) (s.what i) ++ (visits_text (cond (goes_in Written w) (visits Written kids) []) ++ closing_of texts (s.what i)))
+        ∙ ap (λ t. opening how texts raw w ++ (t ++ closing_tag texts w)) (go w s.what) ∙ sym (node-parts how texts tags raw w (written_among how (is_raw_in (name_in (mapped_what texts w))) (mapped texts kids)))
       where
         raw : Bool
         raw = raw_in root own p f
@@ -46,23 +63,17 @@ module _ (how : Escaping) (texts : ℕ → List ℕ) (f : Forest ℕ) (root : �
         begins : stands_raw root own b f ≡ raw
         begins = ap (λ o. option_map_or (λ q. raw_in root own q f) o false) s.parent
 
-        go : (v : What ℕ) → what_of b f ≡ Some v → opening how texts raw v ++ (visits_text (cond (goes_in Written v) (visits Written kids) []) ++ closing_tag texts v)
-            ≡ node_text how raw (mapped_what texts v) (written_among how (is_raw_in (name_in (mapped_what texts v))) (mapped texts kids))
-        go (element name attrs) e = under (is_void (tag_of name)) ∙ ap (λ u. start ++ cond u [] (written_among how (is_raw_in (Some (texts name))) (mapped texts kids) ++ end)) (ap is_void (tags name))
-          where
-            start : List ℕ
-            start = start_tag_text how (texts name) (map (mapped_attribute texts) attrs)
+        under : (u : Bool) (inside : List ℕ) → visits_text (visits Written kids) ≡ inside → visits_text (cond u (visits Written kids) []) ≡ cond u inside []
+        under true inside is = is
+        under false inside is = refl
 
-            end : List ℕ
-            end = end_tag_text (texts name)
-
-            named : raw_in root own b f ≡ is_raw_in (Some (texts name))
-            named = ap (λ u. cond u own (holds_raw (node_name b f))) s.other ∙ ap (λ o. holds_raw (option_and_then name_in o)) e ∙ raw-same texts tags (Some name)
-
-            under : (u : Bool) → start ++ (visits_text (cond (not u) (visits Written kids) []) ++ cond u [] end) ≡ start ++ cond u [] (written_among how (is_raw_in (Some (texts name))) (mapped texts kids) ++ end)
-            under true = refl
-            under false = ap (λ t. start ++ (t ++ end)) (inner ∙ ap (λ r. written_among how r (mapped texts kids)) named)
-        go v e = append-nil (opening how texts raw v)
+        go : (v : What ℕ) → what_of b f ≡ Some v
+            → visits_text (cond (goes_in Written v) (visits Written kids) []) ≡ cond (goes_in Written v) (written_among how (is_raw_in (name_in (mapped_what texts v))) (mapped texts kids)) []
+        go (element name attrs) e =
+            let named : raw_in root own b f ≡ is_raw_in (Some (texts name)) =
+            ap (λ u. cond u own (holds_raw (node_name b f))) s.other ∙ ap (λ o. holds_raw (option_and_then name_in o)) e ∙ raw-same texts tags (Some name) in
+            under (not (is_void (tag_of name))) _ (inner ∙ ap (λ r. written_among how r (mapped texts kids)) named)
+        go _ e = refl
 
     writes : (p : ℕ) (g : Forest ℕ) → Seen made f root p g → visits_text (visits Written g) ≡ written_among how (raw_in root own p f) (mapped texts g)
     writes p none s = refl

@@ -1,5 +1,4 @@
-use Rattle.hserialize.proofs.Names.{◌∙◌, ap, ◌+◌, arith}
-use Rattle.std.proofs.lemmas.Grind.{common_steps}
+use Rattle.hserialize.proofs.Names.{◌∙◌, ap, ◌+◌}
 use Rattle.std.specs.declared.str.CharIndices.{CharIndices}
 use Rattle.hserialize.proofs.Output.{last_put, passed_on}
 use Rattle.hserialize.proofs.Escapes.{begins_at, run_is, kept, replaced, put_failed, last_is}
@@ -30,18 +29,3 @@ pub loop-at-init : goal.loop-at-init
 loop-at-init g c =
     let gives = c.into_iter-at-iterator.ensures.into_iter_gives in
     begins_at _ _ _ _ _ _ (ap (λ (i : CharIndices). i.at) gives ∙ c.char_indices-at-items.ensures.offset) (ap (λ (i : CharIndices). i.rest.now) gives ∙ c.char_indices-at-items.ensures.rest) c.utf8.source
-
-pub slice_bounds-put_before-end : goal.slice_bounds-put_before-end
-slice_bounds-put_before-end g c = grind (arith, common_steps)
-
-pub slice_bounds-put-count : goal.slice_bounds-put-count
-slice_bounds-put-count g c = grind (arith, common_steps)
-
-pub slice_bounds-put-start : goal.slice_bounds-put-start
-slice_bounds-put-start g c = grind (arith, common_steps)
-
-pub slice_bounds-put_before-count : goal.slice_bounds-put_before-count
-slice_bounds-put_before-count g c = grind arith
-
-pub overflow_add-done : goal.overflow_add-done
-overflow_add-done g c = grind arith

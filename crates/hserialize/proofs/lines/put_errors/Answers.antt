@@ -1,6 +1,5 @@
 use Rattle.hserialize.proofs.Names.{ap, drop_all, error_line, error_lines}
-use Rattle.hserialize.proofs.Output.{all_put, none_put, part_put, part_failed, passed_on}
-use Rattle.hserialize.proofs.LineTexts.{next_lines}
+use Rattle.hserialize.proofs.Output.{all_put, next_lines, none_put, part_put, part_failed, passed_on}
 use Rattle.hserialize.proofs.lines.put_errors.Goals as goal
 
 pub returns-in_err-put_error : goal.returns-in_err-put_error

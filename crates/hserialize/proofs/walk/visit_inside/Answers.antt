@@ -1,4 +1,4 @@
-use Rattle.hserialize.proofs.Names.{sym, ◌∙◌, rules, arith}
+use Rattle.hserialize.proofs.Names.{sym, ◌∙◌, rules}
 use Rattle.hserialize.proofs.Moves.{descends}
 use Rattle.hserialize.proofs.walk.visit_inside.Goals as goal
 
@@ -10,6 +10,3 @@ returns-in-Some-clause-visits c =
 pub returns-in-Some-clause-inside : goal.returns-in-Some-clause-inside
 returns-in-Some-clause-inside c =
     (descends c.args.tree.now.made c.args.tree.now.trees c.first_child.ensures.nodes.counted c.args.root c.args.reach c.args.node c.in-Some.child c.requires.made c.requires.inside (sym c.first_child.ensures.child ∙ c.in-Some.is)).1
-
-pub returns-in_default-clause-visits : goal.returns-in_default-clause-visits
-returns-in_default-clause-visits c = grind arith
