@@ -1,9 +1,7 @@
 -- Where a text is cut, and ASCII characters, each of which is a byte.
-use Rattle.htag.proofs.Vocabulary.{◌≡◌, ℕ, ◌<◌, ◌≤◌, ◌+◌, zero, suc, true, List, [], ◌∷◌, ◌++◌, length, take, drop, sym, refl, ap, ◌∙◌, subst, arith, nat_tests, and_parts, list_all, encode_utf8, len_utf8, take-append-drop, Placed, placed}
-use Rattle.std.specs.Char.{is_ascii}
-use Rattle.std.specs.Str.{chars, IsAscii, IsCharBoundary, IsUtf8}
+use Rattle.htag.proofs.Vocabulary.{◌≡◌, ℕ, ◌<◌, ◌≤◌, ◌+◌, zero, suc, true, List, [], ◌∷◌, ◌++◌, length, take, drop, sym, refl, ap, ◌∙◌, subst, arith, nat_tests, and_parts, list_all, encode_utf8, len_utf8, take-append-drop, Placed, placed, is_ascii, chars, IsUtf8, IsCut}
+use Rattle.std.specs.Str.{IsAscii, IsCharBoundary}
 use Rattle.std.proofs.lemmas.Str.{chars-IsAscii, chars_past_char, encode_ascii, len_utf8_ascii, IsUtf8-from_ascii, IsUtf8-past_char, IsUtf8-take, IsUtf8-drop, IsCharBoundary-from_drop}
-use Rattle.htext.specs.Run.{IsCut}
 
 pub cut_at : (n : ℕ) (run : List ℕ) → IsUtf8 run → IsCharBoundary run n → IsCut n run
 cut_at n run u edge = record { within = edge.0; front = IsUtf8-take run n u edge; back = IsUtf8-drop run n u edge }

@@ -1,13 +1,11 @@
 -- What stands whole in a run: a tag without attributes, or an attribute.
-use Rattle.htag.proofs.Vocabulary.{◌≡◌, ◌≤◌, ◌<◌, ℕ, zero, suc, ◌+◌, ◌-◌, Bool, true, false, not, ◌||◌, ◌&&◌, eqb, eqb_self, List, [], ◌∷◌, ◌++◌, length, take, drop, sym, refl, ap, ◌∙◌, subst, append_assoc, append-nil, arith, nat_tests, length-drop, length-take-le, take-append-drop, take_all, slice_index, list_all, prefix_len, ParseError, Placed, begins, characters, is_equals, is_greater, is_letter, is_quote, is_space, name_bytes, placed, is_plain_byte, all_weaker, all_placed, Entities, is_unquoted_byte, is_word_byte, ends_name, ends_unquoted, tag_errors}
+use Rattle.htag.proofs.Vocabulary.{◌≡◌, ◌≤◌, ◌<◌, ℕ, zero, suc, ◌+◌, ◌-◌, Bool, true, false, not, ◌||◌, ◌&&◌, eqb, eqb_self, List, [], ◌∷◌, ◌++◌, length, take, drop, sym, refl, ap, ◌∙◌, subst, append_assoc, append-nil, arith, nat_tests, length-drop, length-take-le, take-append-drop, take_all, slice_index, list_all, prefix_len, ParseError, Placed, begins, characters, is_equals, is_greater, is_letter, is_quote, is_space, name_bytes, placed, is_plain_byte, all_weaker, all_placed, Entities, is_unquoted_byte, is_word_byte, ends_name, ends_unquoted, tag_errors, take_at, list_all-append, is_ascii, is_quoted_byte, IsPlainValue, is_no_reference}
 use Rattle.std.proofs.Math.Seq.{drop-cons}
-use Rattle.std.proofs.lemmas.List.{length-append, take_at, nil_from_length}
-use Rattle.std.proofs.lemmas.List.Folds.{list_all-append}
+use Rattle.std.proofs.lemmas.List.{length-append, nil_from_length}
 use Rattle.std.proofs.lemmas.List.Sums.{prefix_len_is, prefix_len_passes, prefix_len_stops}
-use Rattle.std.specs.Char.{is_ascii, is_ascii_lowercase}
+use Rattle.std.specs.Char.{is_ascii_lowercase}
 use Rattle.htext.proofs.Runs.{placed-append}
-use Rattle.htext.specs.Run.{is_quoted_byte}
-use Rattle.htag.specs.AtOnce.{IsBareName, IsTagName, IsNameBefore, IsPlainAttribute, IsPlainValue, IsWritten, is_no_reference}
+use Rattle.htag.specs.AtOnce.{IsBareName, IsTagName, IsNameBefore, IsPlainAttribute, IsWritten}
 use Rattle.htag.specs.declared.at_once.PlainValue.{PlainValue}
 use Rattle.htag.specs.Tag.{IsTagFront}
 use Rattle.htag.proofs.InRun.{counted_all, word_bytes, word_in_name, word_nulls, word_plain}

@@ -1,5 +1,5 @@
 -- A value, a character at a time.
-use Rattle.htag.proofs.Vocabulary.{◌≡◌, ℕ, zero, suc, ◌+◌, ◌-◌, ◌≤◌, Bool, true, false, true≢false, ◌&&◌, eqb, List, [], ◌∷◌, ◌++◌, length, take, drop, sym, refl, ap, ◌∙◌, subst, transport, append-nil, append_assoc, arith, encode_utf8_all, encode_utf8, string_bytes, take-append-drop, take_all, encodes-append, UnknownNamedCharacterReference, ParseError, Placed, characters, begins, all, past, is_alphanumeric, error_if, and_parts, and_both, Reference, IsRead, characters_of, errors_of, Entities, Piece, IsReference, IsTable, ampersand, all-append, Pending, ValueWalk, IsValuePiece, AreValue, pieces_text, value_bytes, BeginsPiece, HasHeld, IsInValue, pieces_errors, plain_pieces, reference_errors, nat_tests}
+use Rattle.htag.proofs.Vocabulary.{◌≡◌, ℕ, zero, suc, ◌+◌, ◌-◌, ◌≤◌, Bool, true, false, true≢false, ◌&&◌, eqb, List, [], ◌∷◌, ◌++◌, length, take, drop, sym, refl, ap, ◌∙◌, subst, transport, append-nil, append_assoc, arith, encode_utf8_all, encode_utf8, string_bytes, take-append-drop, take_all, encodes-append, UnknownNamedCharacterReference, ParseError, Placed, characters, begins, all, past, is_alphanumeric, error_if, and_parts, and_both, Reference, IsRead, characters_of, errors_of, Entities, Piece, IsReference, IsTable, ampersand, all-append, Pending, ValueWalk, IsValuePiece, AreValue, pieces_text, value_bytes, BeginsPiece, HasHeld, IsInValue, pieces_errors, plain_pieces, reference_errors, nat_tests, is_no_reference}
 use Rattle.std.proofs.lemmas.Bool.{and_right}
 use Rattle.std.proofs.Common.{length-append}
 use Rattle.std.proofs.lemmas.List.{take-append-le, drop-append-le, drop-map, drop_all, length-map, map-append}
@@ -8,7 +8,6 @@ use Rattle.charref.specs.declared.reference_state.ReferenceState.{ReferenceState
 use Rattle.charref.specs.Held.{is_number, held_characters}
 use Rattle.charref.specs.Walk.{WalkHasTaken, LeavesLast}
 use Rattle.charref.proofs.Keeping.{kept_all, kept_nothing, is_other, drop-kept, drop-kept-end}
-use Rattle.htag.specs.AtOnce.{is_no_reference}
 use Rattle.htag.specs.declared.piece.Pending.TheVariants as reading
 use Rattle.htag.specs.ValueWalk.{InReference, InAmbiguousAmpersand, IsWholeValue, TellsReference}
 use Rattle.htag.proofs.Pieces.{pieces_text-append, pieces_text-one, value_bytes-append, value_bytes-one, pieces_errors-append, is_even, errors-even, is_quiet, quiet_run, quiet_plain, plain_text, plain_bytes, plain_errors, begins_alone, begins_further, begins_piece, begins_plain}

@@ -18,8 +18,8 @@ pub use Rattle.htag.specs.declared.seen.Seen.{Seen}
 pub use Rattle.htag.specs.declared.tag_state.TagState.{TagState}
 pub use Rattle.htag.specs.declared.piece.ValueWalk.{ValueWalk}
 pub use Rattle.htag.specs.declared.walk.TagWalk.{TagWalk}
-pub use Rattle.htext.proofs.Runs.{all_placed}
-pub use Rattle.htext.specs.Run.{is_plain_byte, is_unquoted_byte, is_word_byte}
+pub use Rattle.htext.proofs.Runs.{all_placed, front_of}
+pub use Rattle.htext.specs.Run.{is_plain_byte, is_unquoted_byte, is_word_byte, IsCut, is_clean, is_quoted_byte}
 pub use Rattle.names.proofs.Handing.{grows_not, grows_on}
 pub use Rattle.names.proofs.Words.{all_weaker, all-characters}
 pub use Rattle.names.specs.Names.{Texts, Grows, AreNames}
@@ -34,10 +34,15 @@ pub use Rattle.std.proofs.Math.Path.{transport}
 pub use Rattle.std.proofs.lemmas.Bool.{eqb-true}
 pub use Rattle.std.proofs.lemmas.Bool.Decides.{nat_tests}
 pub use Rattle.std.proofs.lemmas.Grind.{flat_map-append}
-pub use Rattle.std.proofs.lemmas.List.{take-append-drop, length-drop, take_all, length-take-le}
+pub use Rattle.std.proofs.lemmas.List.{take-append-drop, length-drop, take_all, length-take-le, drop-drop, take_at}
 pub use Rattle.std.proofs.lemmas.Result.{on_ok_weaker, MatchResult-weaker, err_from_is_err_and}
-pub use Rattle.std.proofs.lemmas.Str.{encodes-append}
-pub use Rattle.std.specs.Char.{encode_utf8, to_ascii_lowercase, len_utf8}
+pub use Rattle.std.proofs.lemmas.Str.{encodes-append, chars-nil}
+pub use Rattle.std.specs.Char.{encode_utf8, to_ascii_lowercase, len_utf8, is_ascii}
 pub use Rattle.std.specs.List.{flat_map, list_all, prefix_len}
 pub use Rattle.std.specs.Prelude.{encode_utf8_all, if◌then◌else◌, option_to_list, codes, slice_index}
 pub use Rattle.std.specs.String.{string_bytes}
+pub use Rattle.htag.specs.AtOnce.{IsPlainValue, IsQuietFront, is_no_reference}
+pub use Rattle.htag.specs.Run.{next_at}
+pub use Rattle.htext.proofs.Clean.{clean_rest}
+pub use Rattle.std.proofs.lemmas.List.Folds.{list_all-append}
+pub use Rattle.std.specs.Str.{IsUtf8, chars}

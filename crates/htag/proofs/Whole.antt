@@ -1,19 +1,14 @@
 -- An attribute that stands whole in a run.
-use Rattle.htag.proofs.Vocabulary.{◌≡◌, ◌≤◌, ◌<◌, ℕ, ◌+◌, ◌-◌, Bool, true, false, not, ◌||◌, eqb, List, [], ◌∷◌, ◌++◌, length, take, drop, sym, refl, ap, ◌∙◌, subst, transport, append_assoc, append-nil, arith, nat_tests, and_parts, Some, get_or, length-take-le, take-append-drop, take_all, flat_map, list_all, len_utf8, ParseError, Placed, MissingWhitespaceBetweenAttributes, UnexpectedEqualsSignBeforeAttributeName, Texts, all, begins, stops, characters, error_if, is_equals, is_greater, is_quote, is_space, past, place, placed, all_weaker, all_placed, Entities, Piece, TagWalk, AreValue, pieces_text, value_bytes, IsInTag, is_unquoted_byte, is_word_byte, Attribute, IsPart, Part, attribute_name_errors, attribute_part, ends_attribute_name, ends_name, ends_unquoted, name_errors_here, names_after, repeated, unquoted_errors, value_errors}
+use Rattle.htag.proofs.Vocabulary.{◌≡◌, ◌≤◌, ◌<◌, ℕ, ◌+◌, ◌-◌, Bool, true, false, not, ◌||◌, eqb, List, [], ◌∷◌, ◌++◌, length, take, drop, sym, refl, ap, ◌∙◌, subst, transport, append_assoc, append-nil, arith, nat_tests, and_parts, Some, get_or, length-take-le, take-append-drop, take_all, flat_map, list_all, len_utf8, ParseError, Placed, MissingWhitespaceBetweenAttributes, UnexpectedEqualsSignBeforeAttributeName, Texts, all, begins, stops, characters, error_if, is_equals, is_greater, is_quote, is_space, past, place, placed, all_weaker, all_placed, Entities, Piece, TagWalk, AreValue, pieces_text, value_bytes, IsInTag, is_unquoted_byte, is_word_byte, Attribute, IsPart, Part, attribute_name_errors, attribute_part, ends_attribute_name, ends_name, ends_unquoted, name_errors_here, names_after, repeated, unquoted_errors, value_errors, take_at, drop-drop, list_all-append, chars-nil, is_ascii, chars, IsUtf8, is_clean, IsCut, clean_rest, IsQuietFront, next_at}
 use Rattle.std.proofs.Math.Seq.{get_or-append_seam, drop-length}
 use Rattle.std.proofs.lemmas.Bool.{and_from}
-use Rattle.std.proofs.lemmas.List.{length-append, take_at, drop_at, drop-drop}
-use Rattle.std.proofs.lemmas.List.Folds.{list_all-append}
-use Rattle.std.proofs.lemmas.Str.{chars-append, chars-nil, chars-IsAscii, encodes-chars, IsCharBoundary-before_ascii, IsCharBoundary-from_drop, IsUtf8-take, IsUtf8-drop}
-use Rattle.std.specs.Char.{is_ascii}
+use Rattle.std.proofs.lemmas.List.{length-append, drop_at}
+use Rattle.std.proofs.lemmas.Str.{chars-append, chars-IsAscii, encodes-chars, IsCharBoundary-before_ascii, IsCharBoundary-from_drop, IsUtf8-take, IsUtf8-drop}
 use Rattle.std.specs.List.{slice_range}
-use Rattle.std.specs.Str.{chars, IsCharBoundary, IsUtf8}
-use Rattle.htext.specs.Run.{is_clean, IsCut}
-use Rattle.htext.proofs.Clean.{clean_rest}
+use Rattle.std.specs.Str.{IsCharBoundary}
 use Rattle.htext.proofs.Parts.{placed-append as placed_text}
 use Rattle.htext.proofs.Wide.{has_characters}
-use Rattle.htag.specs.AtOnce.{IsPlainAttribute, IsQuietFront, IsWritten}
-use Rattle.htag.specs.Run.{next_at}
+use Rattle.htag.specs.AtOnce.{IsPlainAttribute, IsWritten}
 use Rattle.htag.specs.Steps.{EndsAs}
 use Rattle.htag.specs.declared.at_once.PlainAttribute.{PlainAttribute}
 use Rattle.htag.specs.declared.tag_state.TagState.TheVariants as phase

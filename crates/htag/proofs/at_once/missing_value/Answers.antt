@@ -1,6 +1,4 @@
-use Rattle.htag.proofs.Vocabulary.{◌≡◌, true, not, ◌||◌, eqb, sym, subst, arith, nat_tests, slice_index, is_equals, is_greater, is_space}
-use Rattle.std.specs.Char.{is_ascii}
-use Rattle.htag.specs.AtOnce.{IsPlainValue}
+use Rattle.htag.proofs.Vocabulary.{◌≡◌, true, not, ◌||◌, eqb, sym, subst, arith, nat_tests, slice_index, is_equals, is_greater, is_space, is_ascii, IsPlainValue}
 use Rattle.htag.proofs.AtOnce.{apart_is, missing_is}
 use Rattle.htag.proofs.at_once.missing_value.Goals as goal
 

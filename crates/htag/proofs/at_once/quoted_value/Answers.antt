@@ -1,5 +1,4 @@
-use Rattle.htag.proofs.Vocabulary.{ℕ, List, ◌-◌, length, take, drop, sym, ap, ◌∙◌, subst, arith, length-drop, take_all, eqb-true, ends_name}
-use Rattle.htag.specs.AtOnce.{IsPlainValue}
+use Rattle.htag.proofs.Vocabulary.{ℕ, List, ◌-◌, length, take, drop, sym, ap, ◌∙◌, subst, arith, length-drop, take_all, eqb-true, ends_name, IsPlainValue}
 use Rattle.htag.proofs.AtOnce.{quoted_is}
 use Rattle.htag.proofs.at_once.quoted_value.Goals as goal
 

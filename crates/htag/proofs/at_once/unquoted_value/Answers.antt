@@ -1,5 +1,4 @@
-use Rattle.htag.proofs.Vocabulary.{◌≡◌, ℕ, List, true, ◌-◌, length, take, drop, sym, subst, arith, nat_tests, slice_index, length-drop, take_all, ends_unquoted}
-use Rattle.htag.specs.AtOnce.{IsPlainValue}
+use Rattle.htag.proofs.Vocabulary.{◌≡◌, ℕ, List, true, ◌-◌, length, take, drop, sym, subst, arith, nat_tests, slice_index, length-drop, take_all, ends_unquoted, IsPlainValue}
 use Rattle.htag.proofs.AtOnce.{unquoted_is}
 use Rattle.htag.proofs.at_once.unquoted_value.Goals as goal
 

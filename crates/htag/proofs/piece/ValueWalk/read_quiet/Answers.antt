@@ -1,8 +1,4 @@
-use Rattle.htag.proofs.Vocabulary.{◌≡◌, ℕ, List, [], length, sym, ap, ◌∙◌, subst, arith, length-drop, list_all, string_bytes}
-use Rattle.std.specs.Str.{chars}
-use Rattle.htext.specs.Run.{is_clean}
-use Rattle.htext.proofs.Clean.{clean_rest}
-use Rattle.htag.specs.AtOnce.{IsQuietFront}
+use Rattle.htag.proofs.Vocabulary.{◌≡◌, ℕ, List, [], length, sym, ap, ◌∙◌, subst, arith, length-drop, list_all, string_bytes, chars, is_clean, clean_rest, IsQuietFront}
 use Rattle.htag.proofs.Ascii.{edge_of}
 use Rattle.htag.proofs.QuietValues.{more_read, nothing_read}
 use Rattle.htag.proofs.piece.ValueWalk.read_quiet.Goals as goal

@@ -1,5 +1,4 @@
-use Rattle.htag.proofs.Vocabulary.{◌-◌, [], length, string_bytes}
-use Rattle.htag.specs.AtOnce.{IsQuietFront}
+use Rattle.htag.proofs.Vocabulary.{◌-◌, [], length, string_bytes, IsQuietFront}
 use Rattle.htag.proofs.piece.ValueWalk.read_quiet.Given as goal
 
 -- This many bytes have been read.

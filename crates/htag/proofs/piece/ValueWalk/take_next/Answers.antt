@@ -1,5 +1,4 @@
-use Rattle.htag.proofs.Vocabulary.{◌≡◌, ◌++◌, ◌∷◌, ◌∙◌, [], ℕ, Bool, List, UnexpectedCharacterInUnquotedAttributeValue, ParseError, error_if, null_errors, append_assoc, all, ap, encode_utf8, string_bytes, true, without_null, refl, sym, append-nil, arith, nat_tests, on_ok_weaker}
-use Rattle.htag.specs.AtOnce.{is_no_reference}
+use Rattle.htag.proofs.Vocabulary.{◌≡◌, ◌++◌, ◌∷◌, ◌∙◌, [], ℕ, Bool, List, UnexpectedCharacterInUnquotedAttributeValue, ParseError, error_if, null_errors, append_assoc, all, ap, encode_utf8, string_bytes, true, without_null, refl, sym, append-nil, arith, nat_tests, on_ok_weaker, is_no_reference}
 use Rattle.htag.proofs.InValue.{plain_steps, amp_step}
 use Rattle.htag.proofs.Pieces.{plain_raises}
 use Rattle.htag.proofs.piece.ValueWalk.take_next.Goals as goal

@@ -1,5 +1,4 @@
-use Rattle.htag.proofs.Vocabulary.{◌≡◌, ◌<◌, ◌++◌, ◌∙◌, ℕ, List, refl, true≢false, sym, ap, arith, grows_not, string_bytes}
-use Rattle.htext.proofs.Runs.{front_of}
+use Rattle.htag.proofs.Vocabulary.{◌≡◌, ◌<◌, ◌++◌, ◌∙◌, ℕ, List, refl, true≢false, sym, ap, arith, grows_not, string_bytes, front_of}
 use Rattle.htag.specs.declared.piece.Pending.TheVariants as reading
 use Rattle.htag.proofs.Ascii.{edge_of}
 use Rattle.htag.proofs.InRun.{none_front}

@@ -1,6 +1,5 @@
-use Rattle.htag.proofs.Vocabulary.{◌∙◌, ℕ, List, sym, ap, arith, slice_get, slice_index, err_from_is_err_and, grows_not}
+use Rattle.htag.proofs.Vocabulary.{◌∙◌, ℕ, List, sym, ap, arith, slice_get, slice_index, err_from_is_err_and, grows_not, chars}
 use Rattle.std.proofs.lemmas.Str.{len_utf8_bounds}
-use Rattle.std.specs.Str.{chars}
 use Rattle.htag.proofs.InRun.{after_none, begins_end, begins_with, first_front, first_refused}
 use Rattle.htag.proofs.walk.TagWalk.take_part.Goals as goal
 

@@ -1,8 +1,4 @@
-use Rattle.htag.proofs.Vocabulary.{◌++◌, ℕ, List, ap, ◌∙◌, take, length, arith, length-drop, list_all, err_from_is_err_and, Placed, placed, grows_on, IsInTag, subst}
-use Rattle.std.specs.Str.{chars}
-use Rattle.htext.specs.Run.{is_clean}
-use Rattle.htext.proofs.Clean.{clean_rest}
-use Rattle.htag.specs.Run.{next_at}
+use Rattle.htag.proofs.Vocabulary.{◌++◌, ℕ, List, ap, ◌∙◌, take, length, arith, length-drop, list_all, err_from_is_err_and, Placed, placed, grows_on, IsInTag, subst, chars, is_clean, clean_rest, next_at}
 use Rattle.htag.proofs.Ascii.{edge_of}
 use Rattle.htag.proofs.InRun.{front_more, known_in_rest, next_end, none_front}
 use Rattle.htag.proofs.Keeping.{looks_ahead}

@@ -1,7 +1,5 @@
-use Rattle.htag.proofs.Vocabulary.{◌≡◌, ◌≤◌, ◌++◌, ℕ, List, length, list_all, string_bytes, refl, sym, ap, ◌∙◌, transport, arith, nat_tests, true, false, take, all_weaker, is_word_byte, grows_not, grows_on, on_ok_weaker, prefix_len, slice_index, IsInTag, is_equals, is_space}
-use Rattle.std.specs.Char.{is_ascii, is_ascii_lowercase}
-use Rattle.htext.specs.Run.{is_quoted_byte}
-use Rattle.htext.proofs.Runs.{front_of}
+use Rattle.htag.proofs.Vocabulary.{◌≡◌, ◌≤◌, ◌++◌, ℕ, List, length, list_all, string_bytes, refl, sym, ap, ◌∙◌, transport, arith, nat_tests, true, false, take, all_weaker, is_word_byte, grows_not, grows_on, on_ok_weaker, prefix_len, slice_index, IsInTag, is_equals, is_space, is_ascii, is_quoted_byte, front_of}
+use Rattle.std.specs.Char.{is_ascii_lowercase}
 use Rattle.htag.specs.Run.{IsValueRun, not_ended}
 use Rattle.htag.proofs.Ahead.{bare_ends}
 use Rattle.htag.proofs.Ascii.{ascii_cut, edge_of}

@@ -1,8 +1,4 @@
-use Rattle.htag.proofs.Vocabulary.{◌≡◌, [], Bool, ℕ, List, refl, sym, ap, ◌∙◌, subst, Some, length, slice_get, list_all, string_bytes, Attr, true, if◌then◌else◌, grows_not}
-use Rattle.std.specs.Str.{chars}
-use Rattle.htext.specs.Run.{is_clean}
-use Rattle.htext.proofs.Runs.{front_of}
-use Rattle.htag.specs.AtOnce.{IsQuietFront, is_no_reference}
+use Rattle.htag.proofs.Vocabulary.{◌≡◌, [], Bool, ℕ, List, refl, sym, ap, ◌∙◌, subst, Some, length, slice_get, list_all, string_bytes, Attr, true, if◌then◌else◌, grows_not, chars, is_clean, front_of, IsQuietFront, is_no_reference}
 use Rattle.htag.proofs.InRun.{none_cut, none_front, none_taken}
 use Rattle.htag.proofs.Keeping.{other_value}
 use Rattle.htag.proofs.Whole.{attribute, end_cut, from_edge, name_edge, to_edge, value, whole_taken, written_clean, written_is}
