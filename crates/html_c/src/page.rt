@@ -156,22 +156,7 @@ impl Page {
             && self.origin_count() <= origins.len()
     }
 
-    /// How long the parts are, which fit or do not.
-    fn answer(&self, fits: bool) -> PageAnswer
-        ensures { result ≡ page_answer fits (page_parts self.now) }
-    {
-        PageAnswer {
-            status: status(fits),
-            detail: 0,
-            at: 0,
-            nodes: self.tree.nodes as u64,
-            words: self.tree.words as u64,
-            errors: self.errors().len() as u64,
-            text: self.text.count as u64,
-        }
-    }
-
-    /// Writes all parts to the beginnings of their rooms, if all of them fit.
+    /// Writes all parts to the beginnings of their rooms, if all of them fit, and answers how long they are.
     pub(crate) fn put(
         &self,
         rows: &mut [NodeRow],
@@ -190,6 +175,14 @@ impl Page {
         put_errors(fits, self.errors(), errors);
         self.text.put(fits, text);
         put_origins(fits, &self.tree.parsed, origins);
-        self.answer(fits)
+        PageAnswer {
+            status: status(fits),
+            detail: 0,
+            at: 0,
+            nodes: self.tree.nodes as u64,
+            words: self.tree.words as u64,
+            errors: self.errors().len() as u64,
+            text: self.text.count as u64,
+        }
     }
 }

@@ -2,7 +2,7 @@
 
 ghost use Rattle.std.specs.Prelude.{◌≡◌, ◌<◌, ◌≤◌, ◌⊎◌, true, length, flat_map, map, IfErr, MatchResult};
 ghost use Rattle.names.specs.Names.{text_of};
-ghost use Rattle.html_c.specs.Vocabulary.{Memory, PutsAt, greatest, mapped_attribute, what_of, ended_attribute, ended_word, link_to, parsed_rows, parsed_words, put_over, row_at, words_at, children_of, parsed_origins, origin_at, origin_row, origins_of};
+ghost use Rattle.html_c.specs.Vocabulary.{Memory, PutsAt, greatest, mapped_attribute, what_of, ended_attribute, ended_word, link_to, parsed_rows, parsed_words, put_over, row_at, words_at, children_of, parsed_origins, origin_at, origins_of};
 
 use crate::answer::{NodeRow, OriginRow};
 use crate::room::{put_at, put_one};
@@ -142,23 +142,16 @@ impl Rows {
     }
 }
 
-/// How a node came to be, as a row.
-fn origin_row(origin: Origin) -> OriginRow
-    ensures { result ≡ origin_row origin }
-{
-    OriginRow {
-        at: origin.at,
-        in_source: u32::from(origin.in_source),
-        again_of: link_to(origin.again_of),
-    }
-}
-
-/// The row of a node, by a list of how the nodes came to be.
+/// How a node came to be as a row, by a list of how the nodes came to be.
 fn origin_at(list: &[Origin], node: NodeId) -> OriginRow
     ensures { result ≡ origin_at list.now node }
 {
     match list.get(node.index()) {
-        Some(origin) => origin_row(*origin),
+        Some(origin) => OriginRow {
+            at: origin.at,
+            in_source: u32::from(origin.in_source),
+            again_of: link_to(origin.again_of),
+        },
         None => OriginRow {
             at: 0,
             in_source: 0,
