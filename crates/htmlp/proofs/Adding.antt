@@ -1,7 +1,6 @@
 -- What one more argument or command makes of a command line, and all of a list.
-use Rattle.htmlp.proofs.Names.{◌≡◌, ◌<◌, ◌+◌, ◌∙◌, ℕ, List, ◌∷◌, Bor, Text, Result, Ok, Err, length, drop, get_or, map, sym, ap, ap₂, refl, false, app_of, with_rule, Command, fields_of, choice_rule, named_reads, with_commands, with_rules}
-use Rattle.std.proofs.Common.{◌≤◌, Bool, IfOk}
-use Rattle.std.specs.declared.alloc.AllocError.{AllocError}
+use Rattle.htmlp.proofs.Names.{◌≡◌, ◌<◌, ◌+◌, ◌∙◌, ℕ, List, ◌∷◌, Bor, Text, length, drop, get_or, map, sym, ap, ap₂, refl, false, app_of, with_rule, Command, fields_of, choice_rule, named_reads, with_commands, with_rules}
+use Rattle.std.proofs.Common.{◌≤◌, Bool}
 use Rattle.std.proofs.lemmas.List.{at_drop_more, at_drop_all}
 use Rattle.clap.specs.Words.{AddsArg, AddsSubcommand, App, Rule, rule_of, with_subcommand}
 use Rattle.clap.specs.declared.builder.arg.Arg.{Arg}
@@ -17,17 +16,6 @@ one_more old new arg app rule adds local was is = adds.shape local ∙ ap₂ wit
 
 pub stays_local : (old new : Command) (arg : Arg) → AddsArg old arg new → arg.global ≡ false → (fields_of old).has_globals ≡ false → (fields_of new).has_globals ≡ false
 stays_local old new arg adds local none = adds.globals ∙ rw (local, none) refl
-
--- the same of a call's result
-pub one_more_of : (result : Result Command AllocError) (old : Command) (arg : Arg) (app : App) (rule : Rule) → IfOk result (AddsArg old arg) → arg.global ≡ false
-    → app_of old ≡ app → rule_of arg ≡ rule → IfOk result (λ new. app_of new ≡ with_rule app rule)
-one_more_of (Ok new) old arg app rule adds local was is = one_more old new arg app rule adds local was is
-one_more_of (Err _) old arg app rule adds local was is = tt
-
-pub stays_local_of : (result : Result Command AllocError) (old : Command) (arg : Arg) → IfOk result (AddsArg old arg) → arg.global ≡ false
-    → (fields_of old).has_globals ≡ false → IfOk result (λ new. (fields_of new).has_globals ≡ false)
-stays_local_of (Ok new) old arg adds local none = stays_local old new arg adds local none
-stays_local_of (Err _) old arg adds local none = tt
 
 pub one_command_more : (old sub new : Command) (app its : App) → AddsSubcommand old sub new → (fields_of sub).has_globals ≡ false → app_of old ≡ app → app_of sub ≡ its
     → app_of new ≡ with_subcommand app its.top
