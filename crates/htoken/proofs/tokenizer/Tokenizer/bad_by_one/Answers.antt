@@ -38,9 +38,6 @@ returns-in_err-feed_char-clause-takes g c =
     c.args.sink.now c.loop-fed.sink c.loop-fed.self (replacement_run (c.args.at + fed) 1) (replacement_run c.args.at (fed + 1)) (replaced_more fed 1 c.args.at) (Err c.in_err-feed_char.field-0.0) c.feed_char.new.sink c.feed_char.new.self
     (c.loop-fed.invariant.takes table start before text taken grows h) (λ text events has. c.in_err-feed_char.ensures.takes table start c.loop-fed.names text events (grows_not _) has))))
 
-pub returns-in_err-feed_char-clause-grows : goal.returns-in_err-feed_char-clause-grows
-returns-in_err-feed_char-clause-grows g c = grows_on _ _ _ c.loop-fed.invariant.grows c.feed_char.ensures.grows
-
 pub returns-clause-takes : goal.returns-clause-takes
 returns-clause-takes g c = λ table start before text taken grows h.
     let same : c.loop-fed.fed ≡ c.args.count = omega (arith, c.loop-fed-test.false) in

@@ -1,4 +1,4 @@
-use Rattle.htoken.proofs.Names.{ap, subst, HoldsFrom, from_of, sym, rules}
+use Rattle.htoken.proofs.Names.{ap, subst, HoldsFrom, from_of, sym}
 use Rattle.htoken.proofs.Holding.{from_held, holds_from}
 use Rattle.htoken.proofs.tokenizer.Tokenizer.held_from.Goals as goal
 
@@ -10,9 +10,6 @@ returns-in-AmbiguousAmpersand-clause-holds c = λ table start names text taken h
 
 pub returns-in_default-clause-holds : goal.returns-in_default-clause-holds
 returns-in_default-clause-holds c = λ table start names text taken h. subst (HoldsFrom table start text taken) (sym (from_held c.args.self.now.state c.args.self.now c.in_default.not-Text c.in_default.not-AmbiguousAmpersand)) (holds_from table start c.args.self.now names text taken h)
-
-pub returns-in-Text-clause-from : goal.returns-in-Text-clause-from
-returns-in-Text-clause-from c = search rules
 
 pub returns-in_default-clause-from : goal.returns-in_default-clause-from
 returns-in_default-clause-from c = from_held c.args.self.now.state c.args.self.now c.in_default.not-Text c.in_default.not-AmbiguousAmpersand

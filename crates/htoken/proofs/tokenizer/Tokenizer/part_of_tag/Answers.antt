@@ -1,4 +1,4 @@
-use Rattle.htoken.proofs.Names.{◌≡◌, ◌++◌, ◌∙◌, [], ℕ, List, refl, sym, ap, subst, take, arith, chars, placed, front_of, IsCharBoundary-from_drop, grows_on, gives_item, after_last, err_is}
+use Rattle.htoken.proofs.Names.{◌≡◌, ◌++◌, ◌∙◌, [], ℕ, List, refl, sym, ap, subst, take, chars, placed, front_of, IsCharBoundary-from_drop, grows_on, gives_item, after_last, err_is}
 use Rattle.htoken.proofs.Fronts.{cut_refused}
 use Rattle.htoken.proofs.InRun.{tag_finishes, tag_goes_on, tag_read, tag_stopped}
 use Rattle.htoken.proofs.Taking.{IsCalm, taken_now}
@@ -6,12 +6,6 @@ use Rattle.htoken.proofs.tokenizer.Tokenizer.part_of_tag.Goals as goal
 
 pub range-requires-clause-end_boundary : goal.range-requires-clause-end_boundary
 range-requires-clause-end_boundary g c = let cut = c.in_ok-count.ensures.cut in IsCharBoundary-from_drop c.args.run.now c.in_ok-count.count cut.within cut.back
-
-pub after_last-self-requires-clause-some : goal.after_last-self-requires-clause-some
-after_last-self-requires-clause-some g c = omega (arith, c.in_ok-count.ensures.some c.requires.some, c.range.ensures.len)
-
-pub after_last-self-requires-clause-within : goal.after_last-self-requires-clause-within
-after_last-self-requires-clause-within g c = omega (arith, c.in_ok-count.ensures.cut.within, c.range.ensures.len, c.requires.within)
 
 pub returns-in_err-count-clause-takes : goal.returns-in_err-count-clause-takes
 returns-in_err-count-clause-takes g c =
@@ -54,15 +48,3 @@ returns-in_err-end_tag-clause-takes g c =
     (tag_finishes g.S.ErrorSink.gives g.S.TokenSink.gives_token table start c.args.names.now c.end_tag.new.names (grows_on _ _ _ c.take_run.ensures.grows c.end_tag.ensures.grows) text taken c.args.self.now k c.requires.tag (placed c.args.at (chars (take count run)))
     t (record { kind_is = refl; last_is = refl; at_is = refl; stays = (refl, refl, c.after_last-self.ensures text ∙ ap (λ (x : List ℕ). after_last (text ++ placed c.args.at (chars x))) part_is) }) c.in_ok-count.ensures.kind c.take_run.new.names c.end_tag.ensures.grows
     (rw c.if-ended.true at (c.in_ok-count.ensures.takes _ (tag_read g.S.ErrorSink.gives g.S.TokenSink.gives_token table start c.args.names.now c.take_run.new.names c.take_run.ensures.grows text taken c.args.self.now k c.requires.tag []))) _ _ _ _ c.in_err-end_tag.ensures.tag))
-
-pub returns-clause-few : goal.returns-clause-few
-returns-clause-few g c = (c.in_ok-count.ensures.some c.requires.some, c.in_ok-count.ensures.cut)
-
-pub returns-then-ended-clause-few : goal.returns-then-ended-clause-few
-returns-then-ended-clause-few g c = (c.in_ok-count.ensures.some c.requires.some, c.in_ok-count.ensures.cut)
-
-pub returns-then-ended-clause-grows : goal.returns-then-ended-clause-grows
-returns-then-ended-clause-grows g c = grows_on _ _ _ c.take_run.ensures.grows c.end_tag.ensures.grows
-
-pub returns-in_err-end_tag-clause-grows : goal.returns-in_err-end_tag-clause-grows
-returns-in_err-end_tag-clause-grows g c = grows_on _ _ _ c.take_run.ensures.grows c.end_tag.ensures.grows

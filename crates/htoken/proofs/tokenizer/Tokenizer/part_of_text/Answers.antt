@@ -39,15 +39,9 @@ returns-clause-takes g c = λ names table start before text taken grows h.
     (text_given g.S.ErrorSink.gives g.S.TokenSink.gives_token table start names text taken _ (taken_now table start c.args.self.now before names text taken (subst IsCalm (sym c.requires.text) tt) grows h) c.requires.text c.args.run.now c.args.at c.in_ok-count.count front.errors front.front _ _ front.handed
     c.give_text.new.self c.in_ok-give_text.ensures.then c.range.result.now (c.range.ensures.value ∙ front_of c.in_ok-count.count c.args.run.now) c.in_ok-give_text.ensures.follows _ c.in_ok-give_text.ensures.handed)
 
-pub take_references-requires-clause-cut : goal.take_references-requires-clause-cut
-take_references-requires-clause-cut g c = c.in_ok-count.ensures.front.front.cut
-
 pub take_references-requires-clause-whole : goal.take_references-requires-clause-whole
 take_references-requires-clause-whole g c =
     subst (λ (t : Tokenizer). IfSome c.in_ok-count.whole (λ it. IsWhole t.table.now t.kind (drop c.in_ok-count.count c.args.run.now) it.0 it.1)) (sym c.in_ok-give_text.ensures.then) c.in_ok-count.ensures.whole
-
-pub take_end-requires-clause-cut : goal.take_end-requires-clause-cut
-take_end-requires-clause-cut g c = c.in_ok-count.ensures.front.front.cut
 
 pub take_end-requires-clause-whole : goal.take_end-requires-clause-whole
 take_end-requires-clause-whole g c =

@@ -3,9 +3,6 @@ use Rattle.htoken.proofs.Reading.{ran_out_of}
 use Rattle.htoken.proofs.InData.{solidus_follows, bang_follows, question_follows, letter_follows}
 use Rattle.htoken.proofs.tokenizer.Tokenizer.tag_open.Goals as goal
 
-pub less_is_text-requires-clause-other : goal.less_is_text-requires-clause-other
-less_is_text-requires-clause-other g c = grind (arith, nat_tests)
-
 pub returns-in-47 : goal.returns-in-47
 returns-in-47 g c = λ table start names text taken h.
     solidus_follows (gives_item g.S.ErrorSink.gives g.S.TokenSink.gives_token) table start text (record { ch = c.args.ch; at = c.args.at }) names taken _ h c.requires _ _

@@ -46,6 +46,3 @@ pub returns-clause-takes : goal.returns-clause-takes
 returns-clause-takes g c = λ table start before text taken grows h.
     cut_all_taken (gives_item g.S.ErrorSink.gives g.S.TokenSink.gives_token) table start text c.args.at c.loop-count.count c.args.run.now c.loop-count.invariant.cut taken c.loop-count.names c.loop-count.names (grows_not _)
     c.args.sink.now c.loop-count.sink c.loop-count.self (omega arith) (c.loop-count.invariant.takes table start before text taken grows h)
-
-pub returns-in_err-more-clause-grows : goal.returns-in_err-more-clause-grows
-returns-in_err-more-clause-grows g c = grows_on _ _ _ c.loop-count.invariant.grows c.take_part.ensures.grows
