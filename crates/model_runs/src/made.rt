@@ -1,17 +1,10 @@
-//! Names, tables of references, quirks lists and sites that are made by number.
+//! Tables of references, quirks lists and sites that are made by number.
 
-use crate::hand::Hand;
 use charref::Table;
 use hadopt::Site;
 use hmarkup::Quirks;
 use names::{Keys, Refusal};
 use std::alloc::Global;
-
-/// Gives a name its number. Whether it has a text by it.
-pub fn intern(hand: &mut Hand, turn: usize) -> Result<bool, Refusal> {
-    let name = hand.name(turn)?;
-    Ok(hand.names.get(name).is_some())
-}
 
 /// A table with so many keys, `&name0;` first.
 pub fn table(alloc: Global, count: usize) -> Result<Table, Refusal> {

@@ -99,7 +99,10 @@ impl Structures {
             "tree" => tree::call(hand, line, turn),
             "stack" => stack::call(&mut self.stack, hand, word(line, 1), turn),
             "list" => list::call(&mut self.list, hand, line, turn),
-            "names" => made::intern(hand, turn),
+            "names" => {
+                let name = hand.name(turn)?;
+                Ok(hand.names.get(name).is_some())
+            }
             _ => self.call_text(line, turn),
         }
     }

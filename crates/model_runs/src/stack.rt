@@ -38,17 +38,15 @@ fn exchange(stack: &mut OpenStack, hand: &mut Hand, turn: usize) -> Result<(), R
 fn change(stack: &mut OpenStack, hand: &mut Hand, call: &str, turn: usize) -> Result<(), Refusal> {
     let number = stack.len().saturating_add(turn);
     let new = hand.open(number, number)?;
-    let near = right_above(stack).map_or(new.node, |open| open.node);
+    let near = match stack.current() {
+        Some(current) => stack.above(current.node).map_or(new.node, |open| open.node),
+        None => new.node,
+    };
     match call {
         "replace" => stack.replace(near, new)?,
         _ => stack.remove(near),
     }
     Ok(())
-}
-
-/// The node right above the current node.
-fn right_above(stack: &OpenStack) -> Option<Open> {
-    stack.above(stack.current()?.node)
 }
 
 /// What is asked of the topmost node.

@@ -84,7 +84,10 @@ fn call_of_node(hand: &mut Hand, call: &str, turn: usize) -> Result<bool, Refusa
         return Ok(false);
     };
     match call {
-        "attr" => add_attr(hand, node, turn)?,
+        "attr" => {
+            let attr = hand.attr(turn, 1)?;
+            hand.tree.add_attr(node, attr)?;
+        }
         "missing" => return add_missing(hand, node, turn),
         "nodes" => return has_nodes(hand, node),
         "char" => hand.tree.put_char('c', Place::LastIn(node), PLACE)?,
@@ -92,14 +95,6 @@ fn call_of_node(hand: &mut Hand, call: &str, turn: usize) -> Result<bool, Refusa
         _ => return is_written(hand, node),
     }
     Ok(true)
-}
-
-/// Gives a node an attribute that it has not.
-fn add_attr(hand: &mut Hand, node: NodeId, turn: usize) -> Result<(), Refusal>
-    requires { node < hand.old.tree.made }
-{
-    let attr = hand.attr(turn, 1)?;
-    hand.tree.add_attr(node, attr)
 }
 
 /// Gives a node an attribute that it may have. Whether it has as many as names were given.
