@@ -222,6 +222,7 @@ impl Names {
         ensures place { result ≡ position (bytes_eq text.now) self.now }
         ensures names { AreNames self.now }
     {
+        prove!(self.are_names());
         let others = &self.others;
         if let Some(index) = known_number(text) {
             return Some(NameId { index });
@@ -279,6 +280,7 @@ impl Names {
         ensures text { option_map (λ t. t.now) result ≡ slice_get self.now index }
         ensures names { AreNames self.now }
     {
+        prove!(self.are_names());
         let others = &self.others;
         if index < KNOWN {
             return known_text(index);
