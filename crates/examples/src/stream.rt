@@ -19,18 +19,13 @@ pub fn main(rt: HostRuntime) -> anyhow::Result<()> {
 
 /// Prints the first links of the page that the command line names.
 pub fn print_first_links(rt: &HostRuntime) -> anyhow::Result<()> {
-    let entities = fs::read_to_string(rt, word(rt, 2)?.as_str())?;
-    let table = Table::read(rt.alloc(), &entities)?;
+    let table = Table::read(rt.alloc(), &fs::read_to_string(rt, word(rt, 2)?.as_str())?)?;
     // The quirks list has no say in tokens.
     let quirks = Quirks::read(rt.alloc(), "")?;
-    print_links(rt, &Options::new(&table, &quirks, Keys::random(rt)?))
-}
-
-/// Prints the links of the page, read with these options.
-fn print_links(rt: &HostRuntime, options: &Options<'_>) -> anyhow::Result<()> {
+    let options = Options::new(&table, &quirks, Keys::random(rt)?);
     let left = most(rt)?;
     let mut page = Counted::new(File::open(rt, word(rt, 1)?.as_str())?);
-    let (links, answer) = read_into(rt.alloc(), PIECE, options, Links { rt, left }, &mut page);
+    let (links, answer) = read_into(rt.alloc(), PIECE, &options, Links { rt, left }, &mut page);
     // Where no more are wanted, the refusal is that of the sink.
     if links.left > 0 {
         answer?;
