@@ -314,17 +314,8 @@ module _ {N : Type 0} (n : Naming N) where
 
 -- the places that the rules name are in the document's tree
 module _ {N : Type 0} (n : Naming N) (s : SiteOf N) (k : IsSound n s) where
-  pub place-stands : PlaceStands (place n s) (trees s)
-  place-stands = let h = to-well n s k in fits-standing n (comment []) s h (place n s) (place-fits n (comment []) s h)
-
-  pub here-stands : PlaceStands (LastIn (open_node (current (stack s)))) (trees s)
-  here-stands = let h = to-well n s k in fits-standing n (comment []) s h (LastIn (open_node (current (stack s)))) (here-fits n (comment []) s h)
-
-  pub first-stands : PlaceStands (LastIn (open_node (from_top 0 s))) (trees s)
-  first-stands = let h = to-well n s k in fits-standing n (comment []) s h (LastIn (open_node (from_top 0 s))) (first-fits n (comment []) s h)
-
-  pub root-stands : PlaceStands (LastIn 0) (trees s)
-  root-stands = let h = to-well n s k in fits-standing n (comment []) s h (LastIn 0) (root-fits n (comment []) s h)
+  pub stands-where : (p : Place) → ((h : Well n s) → FitsHere n (comment []) s h p) → PlaceStands p (trees s)
+  stands-where p fits = let h = to-well n s k in fits-standing n (comment []) s h p (fits h)
 
 -- the document alone
 abbrev alone : Forest ℕ

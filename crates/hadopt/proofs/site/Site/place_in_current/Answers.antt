@@ -1,9 +1,9 @@
-use Rattle.hadopt.proofs.Names.{rules, numbers}
-use Rattle.hadopt.proofs.Inserting.{here-stands}
+use Rattle.hadopt.proofs.Names.{[], comment, rules, numbers}
+use Rattle.hadopt.proofs.Inserting.{stands-where, here-fits}
 use Rattle.hadopt.proofs.site.Site.place_in_current.Goals as goal
 
 pub returns-clause-place : goal.returns-clause-place
 returns-clause-place c = search rules
 
 pub returns-clause-stands : goal.returns-clause-stands
-returns-clause-stands c = λ k. rw (returns-clause-place c) (here-stands numbers c.args.self.now k)
+returns-clause-stands c = λ k. rw (returns-clause-place c) (stands-where numbers c.args.self.now k _ (λ h. here-fits numbers (comment []) c.args.self.now h))
