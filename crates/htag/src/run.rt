@@ -82,8 +82,8 @@ impl<'t> TagWalk<'t> {
         Ok((ch.len_utf8(), ended))
     }
 
-    /// Takes what stands whole at the front of a run: the rest of the tag's name, or an attribute, that begins with a small letter (which
-    /// ends an attribute whose name was read), or characters of a value. Returns its length, or 0.
+    /// Takes what stands whole at the front of a run: the rest of the tag's name, or an attribute, that begins with a small letter, or
+    /// characters of a value. Returns its length, or 0.
     #[inline(always)]
     fn take_whole(
         &mut self,
@@ -107,10 +107,6 @@ impl<'t> TagWalk<'t> {
             TagState::BeforeAttributeName if is_small => self.whole_attribute(
                 table, names, run, at, errors,
             ),
-            TagState::AfterAttributeName if is_small => {
-                self.end_attribute(names, errors)?;
-                self.whole_attribute(table, names, run, at, errors)
-            }
             TagState::AttributeValueQuoted(mark) => {
                 if !mark.is_ascii() {
                     return Ok(0);

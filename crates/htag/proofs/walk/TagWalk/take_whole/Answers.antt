@@ -1,9 +1,7 @@
-use Rattle.htag.proofs.Vocabulary.{◌≡◌, ◌≤◌, ◌++◌, ℕ, List, length, list_all, string_bytes, refl, sym, ap, ◌∙◌, transport, arith, nat_tests, true, false, take, all_weaker, is_word_byte, grows_not, grows_on, on_ok_weaker, prefix_len, slice_index, IsInTag, is_equals, is_space, is_ascii, is_quoted_byte, front_of}
-use Rattle.std.specs.Char.{is_ascii_lowercase}
-use Rattle.htag.specs.Run.{IsValueRun, not_ended}
-use Rattle.htag.proofs.Ahead.{bare_ends}
+use Rattle.htag.proofs.Vocabulary.{◌≡◌, ◌≤◌, ◌++◌, ℕ, List, length, list_all, string_bytes, refl, sym, ap, ◌∙◌, arith, true, false, take, all_weaker, is_word_byte, grows_not, prefix_len, is_ascii, is_quoted_byte, front_of}
+use Rattle.htag.specs.Run.{IsValueRun}
 use Rattle.htag.proofs.Ascii.{ascii_cut, edge_of}
-use Rattle.htag.proofs.InRun.{begins_ascii, counted_all, first_known, next_first, none_front, word_ascii, words_in_name}
+use Rattle.htag.proofs.InRun.{counted_all, none_front, word_ascii, words_in_name}
 use Rattle.htag.proofs.walk.TagWalk.take_whole.Goals as goal
 
 pub returns-in_default : goal.returns-in_default
@@ -14,9 +12,6 @@ returns-in_default-2 c = none_front _ _ _ _ _ _ c.utf8.run
 
 pub returns-in_default-3 : goal.returns-in_default-3
 returns-in_default-3 c = none_front _ _ _ _ _ _ c.utf8.run
-
-pub returns-in_default-4 : goal.returns-in_default-4
-returns-in_default-4 c = none_front _ _ _ _ _ _ c.utf8.run
 
 pub returns-then-not-is_ascii : goal.returns-then-not-is_ascii
 returns-then-not-is_ascii c = none_front _ _ _ _ _ _ c.utf8.run
@@ -54,23 +49,3 @@ returns-else-not-is_ascii c = c.take_in_value.ensures _ _ _ _
 
 pub returns-in-AttributeValueUnquoted : goal.returns-in-AttributeValueUnquoted
 returns-in-AttributeValueUnquoted c = c.take_in_value-in-AttributeValueUnquoted.ensures _ _ _ _
-
-pub returns-in_ok-end_attribute-in-AfterAttributeName : goal.returns-in_ok-end_attribute-in-AfterAttributeName
-returns-in_ok-end_attribute-in-AfterAttributeName c =
-    let run = c.args.run.now in
-    let ch = slice_index run 0 in
-    let small : is_ascii_lowercase ch ≡ true = grind (arith, nat_tests) in
-    let ascii : is_ascii ch ≡ true = grind (arith, small, nat_tests) in
-    let no_space : is_space ch ≡ false = grind (arith, small, nat_tests) in
-    let no_equals : is_equals ch ≡ false = grind (arith, small, nat_tests) in
-    let begins = (begins_ascii run ch c.requires.some refl ascii c.utf8.run).0 in
-    let whole = c.whole_attribute-in-AfterAttributeName in
-    let ended = c.in_ok-end_attribute-in-AfterAttributeName.ensures.ended in
-    record {
-      cut = whole.ensures.cut;
-      takes = λ body h.
-          whole.ensures.takes body (transport (λ t. IsInTag c.args.table.now c.end_attribute.new.names c.end_attribute.new.self body (sym (next_first c.args.at run _ ch begins) t) c.end_attribute.new.errors.items)
-          (bare_ends _ _ _ body _ _ (first_known _ _ _ body _ c.args.at run _ ch begins h) true c.in-AfterAttributeName.is _ _ _ ended refl no_space no_equals));
-      grows = grows_on _ _ _ c.end_attribute.ensures.grows whole.ensures.grows;
-      kind = on_ok_weaker (not_ended whole.result) (λ is. is ∙ ended.kind_is) whole.ensures.kind;
-    }
