@@ -1,22 +1,21 @@
 //! Where a document and a fragment begin, and resetting the insertion mode (HTML Standard, `#parsing-html-fragments` and
 //! `#reset-the-insertion-mode-appropriately`).
 
-ghost use Rattle.std.specs.Prelude.{◌≡◌, IfOk, MatchResult};
+ghost use Rattle.std.specs.Prelude.{◌≡◌, MatchResult};
 ghost use Rattle.std.specs.Option.{option_map_or};
-ghost use Rattle.hmodes.specs.Vocabulary.{numbers, state_of, Memory, control_in, document_begins, fragment_begins, fragment_site, from_top, InBody, context_mode, stack, open_mode, root_mode, reset_mode};
+ghost use Rattle.hmodes.specs.Vocabulary.{numbers, Memory, control_in, form_of, fragment_site, from_top, InBody, context_mode, stack, open_mode, root_mode, reset_mode};
 
 use crate::limits::Limits;
 use crate::mode::Mode;
 use crate::tree_construction::{Control, TreeConstruction};
 use hadopt::Site;
-use hmarkup::Quirks;
 use hnodes::NodeId;
 use hopen::Group;
-use names::{Keys, NameId, Refusal, Tag};
-use std::alloc::{AllocError, Global};
+use names::{Keys, Refusal, Tag};
+use std::alloc::Global;
 
 /// The state other than the tree, in a mode.
-fn control_in(alloc: Global, mode: Mode, form: Option<NodeId>) -> Control
+pub(crate) fn control_in(alloc: Global, mode: Mode, form: Option<NodeId>) -> Control
     ensures { result ≡ control_in mode form }
 {
     Control {
@@ -33,7 +32,11 @@ fn control_in(alloc: Global, mode: Mode, form: Option<NodeId>) -> Control
 }
 
 /// The tree in which a fragment begins, and its root element, which is open.
-fn fragment_site(alloc: Global, keys: Keys, limits: Limits) -> Result<(Site, NodeId), Refusal>
+pub(crate) fn fragment_site(
+    alloc: Global,
+    keys: Keys,
+    limits: Limits,
+) -> Result<(Site, NodeId), Refusal>
     ensures { MatchResult result (λ r. (r.0 ≡ fragment_site numbers limits.tree) × (r.1 ≡ 1)) (λ e. e ≡ Memory) }
 {
     let mut site = Site::new(alloc, keys, limits.nodes(), limits.depth())?;
@@ -45,6 +48,16 @@ fn fragment_site(alloc: Global, keys: Keys, limits: Limits) -> Result<(Site, Nod
             drop(site);
             Err(refusal)
         }
+    }
+}
+
+/// The form pointer in a context: the document stands for a form that is the context.
+pub(crate) fn form_pointer(site: &Site, context: Tag) -> Option<NodeId>
+    ensures { result ≡ form_of context }
+{
+    match context {
+        Tag::Form => Some(site.tree().document()),
+        _ => None,
     }
 }
 
@@ -65,7 +78,7 @@ fn open_mode(tag: Tag) -> Option<Mode>
 }
 
 /// The mode that a context decides on.
-fn context_mode(tag: Tag) -> Mode
+pub(crate) fn context_mode(tag: Tag) -> Mode
     ensures { result ≡ context_mode tag }
 {
     match tag {
@@ -80,50 +93,6 @@ fn context_mode(tag: Tag) -> Mode
 }
 
 impl<'q> TreeConstruction<'q> {
-    /// A document begins.
-    pub(crate) fn document(
-        alloc: Global,
-        keys: Keys,
-        quirks: &'q Quirks,
-        limits: Limits,
-    ) -> Result<TreeConstruction<'q>, AllocError>
-        ensures { IfOk result (λ r. state_of r ≡ document_begins quirks.now limits.tree) }
-    {
-        Ok(TreeConstruction {
-            site: Site::new(alloc, keys, limits.nodes(), limits.depth())?,
-            control: control_in(alloc, Mode::Initial, None),
-            context: None,
-            quirks_list: Some(quirks),
-            alloc,
-        })
-    }
-
-    /// A fragment begins in a context element of a name (`#html-fragment-parsing-algorithm`), in the mode that a reset gives there; and
-    /// its root element.
-    pub(crate) fn fragment(
-        alloc: Global,
-        keys: Keys,
-        context: NameId,
-        limits: Limits,
-    ) -> Result<(TreeConstruction<'q>, NodeId), Refusal>
-        ensures { MatchResult result (λ r. (state_of r.0 ≡ fragment_begins numbers context limits.tree) × (r.1 ≡ 1)) (λ e. e ≡ Memory) }
-    {
-        let (site, root) = fragment_site(alloc, keys, limits)?;
-        // the document stands for a form that is the context
-        let form = match context.tag() {
-            Tag::Form => Some(site.tree().document()),
-            _ => None,
-        };
-        let state = TreeConstruction {
-            site,
-            control: control_in(alloc, context_mode(context.tag()), form),
-            context: Some(context),
-            quirks_list: None,
-            alloc,
-        };
-        Ok((state, root))
-    }
-
     /// Reset the insertion mode appropriately: the mode that fits the open nodes, going up from the current one, is that of the first that
     /// decides.
     pub(crate) fn reset_mode(&self) -> Mode

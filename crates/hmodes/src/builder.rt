@@ -8,8 +8,11 @@ ghost use Rattle.std.specs.Str.{chars};
 ghost use Rattle.hmodes.specs.Vocabulary.{Refused, Memory, numbers, document_begins, fragment_begins, token_of, TakesTokenAt, TakesToken, puts_run, pends_run, AreSome, puts_each, takes_char, is_clean, MAX_INPUT, run_tokens, IsTextWithReferences, placed};
 ghost use Rattle.hmodes.specs.Vocabulary.{Placed, Hands};
 
+use crate::beginning::{context_mode, control_in, form_pointer, fragment_site};
 use crate::limits::Limits;
+use crate::mode::Mode;
 use crate::tree_construction::TreeConstruction;
+use hadopt::Site;
 use hmarkup::{ErrorSink, Quirks};
 use hnodes::{NodeId, Tree};
 use htoken::{Token, TokenSink};
@@ -78,8 +81,15 @@ impl<'q> Builder<'q> {
         ensures { MatchResult result
             (λ b. b ≡ record { state = document_begins quirks.now limits.tree; root = 0; tokenizer_errors = []; refused = None }) (λ e. e ≡ Memory) }
     {
-        let state = TreeConstruction::document(alloc, keys, quirks, limits)?;
-        let root = state.site.tree().document();
+        let site = Site::new(alloc, keys, limits.nodes(), limits.depth())?;
+        let root = site.tree().document();
+        let state = TreeConstruction {
+            site,
+            control: control_in(alloc, Mode::Initial, None),
+            context: None,
+            quirks_list: Some(quirks),
+            alloc,
+        };
         Ok(Builder {
             state,
             root,
@@ -98,7 +108,15 @@ impl<'q> Builder<'q> {
         ensures { MatchResult result (λ b. b ≡ record { state = fragment_begins numbers context limits.tree; root = 1; tokenizer_errors = []; refused = None })
             (λ e. e ≡ Memory) }
     {
-        let (state, root) = TreeConstruction::fragment(alloc, keys, context, limits)?;
+        let (site, root) = fragment_site(alloc, keys, limits)?;
+        let tag = context.tag();
+        let state = TreeConstruction {
+            control: control_in(alloc, context_mode(tag), form_pointer(&site, tag)),
+            site,
+            context: Some(context),
+            quirks_list: None,
+            alloc,
+        };
         Ok(Builder {
             state,
             root,
