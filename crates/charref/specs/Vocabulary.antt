@@ -8,7 +8,7 @@ pub use Rattle.charref.specs.Number.{is_digit_of, radix, sign_size}
 pub use Rattle.charref.specs.Open.{HasReference, IsOpenReference}
 pub use Rattle.charref.specs.Pieces.{characters_of, IsRead, number_reference, text_reference, unknown_of}
 pub use Rattle.charref.specs.Reading.{codepoint, codepoints, entities_of, entry_of_json, entry_of_characters, fields, is_character, IsRefusedWith, table_of_json, table_of_members}
-pub use Rattle.charref.specs.Reference.{digit_value, ends_in_semicolon, Entities, Entry, is_control, is_key, is_key_name, is_surrogate, IsReference, IsTable, longest, number_fault, numbered, Piece, replaced, replacements}
+pub use Rattle.charref.specs.Reference.{digit_value, ends_in_semicolon, Entities, Entry, is_control, is_key, is_key_name, is_surrogate, IsReference, IsTable, longest, number_fault, numbered, Piece}
 pub use Rattle.charref.specs.Table.{AreEnds, AreMarked, best_entry, code_at, entries, EntryGoesOn, HasNone, SearchHasRead, is_inside, is_search_within, has_read_key, IsAfterKey, IsIndex, IsOpenKey, IsOver, IsParted, IsRange, IsRising, IsSortedTable, IsStart, key_at}
 pub use Rattle.charref.specs.Walk.{WalkHasTaken, is_next_within, LeavesLast, NextIs, StaysNumber, TakesCharacter}
 pub use Rattle.charref.specs.declared.walk.Walk.{Walk as WalkOf}

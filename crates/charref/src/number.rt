@@ -1,7 +1,7 @@
 //! The characters of numeric references (HTML Standard, from `#numeric-character-reference-state` on).
 
 ghost use Rattle.std.specs.Prelude.{◌≡◌, ◌+◌, ◌*◌, ◌≤◌, ◌<◌, true, false, min, MatchOption};
-ghost use Rattle.charref.specs.Vocabulary.{numbered, number_fault, replaced, replacements, digit_value, is_alphanumeric, is_digit_of, radix};
+ghost use Rattle.charref.specs.Vocabulary.{numbered, number_fault, digit_value, is_alphanumeric, is_digit_of, radix};
 
 use names::{ErrorCode, is_noncharacter};
 
@@ -74,29 +74,21 @@ impl Base {
 }
 
 /// What each C1 control, from 80 on, is replaced with (`#numeric-character-reference-end-state`): some with themselves.
-const C1_CONTROLS: [u16; 32] = [
-    0x20AC, 0x0081, 0x201A, 0x0192, 0x201E, 0x2026, 0x2020, 0x2021, 0x02C6, 0x2030, 0x0160, 0x2039,
-    0x0152, 0x008D, 0x017D, 0x008F, 0x0090, 0x2018, 0x2019, 0x201C, 0x201D, 0x2022, 0x2013, 0x2014,
-    0x02DC, 0x2122, 0x0161, 0x203A, 0x0153, 0x009D, 0x017E, 0x0178,
+const C1_CONTROLS: [char; 32] = [
+    '\u{20AC}', '\u{81}', '\u{201A}', '\u{192}', '\u{201E}', '\u{2026}', '\u{2020}', '\u{2021}',
+    '\u{2C6}', '\u{2030}', '\u{160}', '\u{2039}', '\u{152}', '\u{8D}', '\u{17D}', '\u{8F}',
+    '\u{90}', '\u{2018}', '\u{2019}', '\u{201C}', '\u{201D}', '\u{2022}', '\u{2013}', '\u{2014}',
+    '\u{2DC}', '\u{2122}', '\u{161}', '\u{203A}', '\u{153}', '\u{9D}', '\u{17E}', '\u{178}',
 ];
-
-/// The replacement of a number; any but a C1 control is its own.
-fn replaced(value: u32) -> u32
-    ensures { result ≡ replaced replacements value }
-{
-    match value {
-        0x80..=0x9F => u32::from(C1_CONTROLS[value as usize - 0x80]),
-        _ => value,
-    }
-}
 
 /// The character that a number stands for (`#numeric-character-reference-end-state`).
 pub(crate) fn numbered(value: u32) -> char
     ensures { result ≡ numbered value }
 {
-    match char::from_u32(replaced(value)) {
-        Some(character) if value != 0 => character,
-        _ => char::REPLACEMENT_CHARACTER,
+    match value {
+        0 => char::REPLACEMENT_CHARACTER,
+        0x80..=0x9F => C1_CONTROLS[value as usize - 0x80],
+        _ => char::from_u32(value).unwrap_or(char::REPLACEMENT_CHARACTER),
     }
 }
 
