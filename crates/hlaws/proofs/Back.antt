@@ -1,5 +1,5 @@
 -- Plain trees come back, where what is written of them is read as their own tokens.
-use Rattle.hlaws.proofs.Names.{◌≡◌, ℕ, ◌+◌, Bool, true, false, List, [], ◌∷◌, ◌++◌, map, Some, refl, sym, ◌∙◌, ap, subst, arith, ◌⊎◌, inl, inr, ne_eqb, false≢true, Forest, none, tree, size, children_of, join-none, raw_kind, tag_named, tag_text, Tag, Tok, texts, Goes, Mode, InBody, InCaption, InCell, InTable, InTableBody, InRow, fragment_begins, rule_of, perform, PlacedToken, State, eof, Done, Rule, step_begun, ends, Step, goes, Steps, and, Content, Escaping, BuildsForest, fits_mode, fits_current, is_flow_mode, numbered_forest, AreTexts, AreRead, PlainTokens, ParseOptions, fragment, is_context, token_placed, token_taken, row, texts_in, Inside, are_content, are_content_if, in_context_of, is_form_element, plain_tokens, IsQuiet, stack, erased, node, context_mode, Keep, FitsForest, GivesForest, PlainComesBack, written, not, ◌&&◌, ◌||◌, nat_le, bytes_eq, codes, is_refused, tags, length, is_plain, is_name}
+use Rattle.hlaws.proofs.Names.{◌≡◌, ℕ, ◌+◌, Bool, true, false, List, [], ◌∷◌, ◌++◌, map, Some, refl, sym, ◌∙◌, ap, subst, arith, ◌⊎◌, inl, inr, ne_eqb, false≢true, Forest, none, tree, size, children_of, join-none, raw_kind, tag_named, tag_text, Tag, Tok, texts, Goes, Mode, InBody, InCaption, InCell, InTable, InTableBody, InRow, fragment_begins, rule_of, perform, PlacedToken, State, eof, Done, Rule, step_begun, ends, Step, goes, Steps, and, Content, Escaping, BuildsForest, fits_mode, fits_current, is_flow_mode, numbered_forest, AreTexts, AreRead, PlainTokens, ParseOptions, fragment, is_context, token_placed, token_taken, row, texts_in, Inside, are_content, are_content_if, in_context_of, is_form_element, plain_tokens, IsQuiet, stack, erased, node, context_mode, Keep, FitsForest, GivesForest, PlainComesBack, written, not, ◌&&◌, ◌||◌, nat_le, bytes_eq, codes, is_refused, tags, length, is_plain, is_context_name}
 use Rattle.names.specs.declared.tag.Tag.TheVariants as tag
 use Rattle.hmodes.specs.declared.token_kind.TokenKind.TheVariants.{Eof}
 use Rattle.hmodes.specs.Step as step
@@ -15,7 +15,7 @@ use Rattle.hlaws.proofs.NamesAsTexts.{named_back}
 
 -- whether a parser takes a context of this name, which is known as t
 abbrev is_taken : Tag → List ℕ → Bool
-is_taken t name = nat_le (length name) 64 && is_name name && not (bytes_eq name (codes "colgroup") || is_refused t)
+is_taken t name = nat_le (length name) 64 && is_context_name name && not (bytes_eq name (codes "colgroup") || is_refused t)
 
 -- whether a list is plain in it
 abbrev is_plain_in : Tag → Forest (List ℕ) → Bool

@@ -1,5 +1,5 @@
 -- A list that the table calls content is good.
-use Rattle.hlaws.proofs.Names.{nat_tests, false_from_ne_true, ◌≡◌, ℕ, zero, suc, ◌<◌, Bool, true, false, not, ◌&&◌, List, [], ◌∷◌, ◌++◌, refl, sym, ◌∙◌, ap, subst, arith, ◌⊎◌, inl, inr, and_parts, false≢true, eqb-true, not-true, encodes-chars, encode_ascii, IsUtf8, chars, encode_utf8, encode_utf8_all, codes, ◌==◌, list_all, Forest, none, tree, element, text, tag_named, texts, Content, takes_comments, texts_in, takes_space, AreTexts, Inside, inside_element, inside_node, is_nested, are_content, is_plain_node, is_plain_text, is_plain_comment, is_clean, is_among_texts, begins_with, begins_with_text, begins_with_line_feed, drops_line_feed, is_empty_text, encodes-IsAscii, chars_from_encodes, IsAscii, is_ascii_whitespace, Texts}
+use Rattle.hlaws.proofs.Names.{nat_tests, false_from_ne_true, ◌≡◌, ℕ, zero, suc, ◌<◌, Bool, true, false, not, ◌&&◌, List, [], ◌∷◌, ◌++◌, refl, sym, ◌∙◌, ap, subst, arith, ◌⊎◌, inl, inr, and_parts, false≢true, eqb-true, not-true, encodes-chars, encode_ascii, IsUtf8, chars, encode_utf8, encode_utf8_all, codes, ◌==◌, list_all, Forest, none, tree, element, text, tag_named, texts, Content, takes_comments, texts_in, takes_space, AreTexts, Inside, inside_element, inside_node, is_nested, are_content, is_plain_node, is_plain_text, is_plain_comment, has_no_null_or_return, is_among_texts, begins_with, begins_with_text, begins_with_line_feed, drops_line_feed, is_empty_text, encodes-IsAscii, chars_from_encodes, IsAscii, is_ascii_whitespace, Texts}
 use Rattle.hnodes.specs.Forest as forest
 use Rattle.hserialize.specs.declared.content.Content.TheVariants as content
 use Rattle.hserialize.specs.declared.content.Texts.TheVariants as allowed
@@ -10,7 +10,7 @@ use Rattle.hlaws.proofs.Whole.{Good, LfSafe, TextFits, TextIn}
 
 -- TEXTS
 
-pub is_text : (t : List ℕ) → IsUtf8 t → is_empty_text t ≡ false → is_clean t ≡ true → IsText t
+pub is_text : (t : List ℕ) → IsUtf8 t → is_empty_text t ≡ false → has_no_null_or_return t ≡ true → IsText t
 is_text t u some clean = go (chars t) refl
   where
     bytes_are : encode_utf8_all (chars t) ≡ t
@@ -64,7 +64,7 @@ text_fits i t is u (inl e) h = subst (λ (v : Texts). TextIn i.content (takes_sp
 
 not_empty : (i : Inside) (b : ℕ) (w : forest.What (List ℕ)) (kids rest : Forest (List ℕ)) → is_plain_node (record i { content = content.Empty; texts = allowed.None }) w kids rest ≡ true → ⊥
 not_empty i b (text t) kids rest h =
-    let z = (and_parts (not (is_empty_text t) && is_clean t) false (and_parts (is_plain_text allowed.None t) (not (begins_with_text rest)) h).0).1 in cc
+    let z = (and_parts (not (is_empty_text t) && has_no_null_or_return t) false (and_parts (is_plain_text allowed.None t) (not (begins_with_text rest)) h).0).1 in cc
 not_empty i b _ kids rest h = cc
 
 pub lf_safe : (v : Bool) (kids : Forest (List ℕ)) → not (v && begins_with_line_feed kids) ≡ true → LfSafe v kids

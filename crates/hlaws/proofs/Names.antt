@@ -27,7 +27,7 @@ pub use Rattle.hmodes.specs.declared.mode.Mode.TheVariants.{InBody, InCaption, I
 pub use Rattle.hmodes.specs.declared.token_kind.TokenKind.{TokenKind}
 pub use Rattle.hmodes.specs.declared.token_kind.TokenKind.TheVariants.{Comment, Start, End, Ws, Doctype, Nul, Char}
 pub use Rattle.hnodes.proofs.Forests.{join-none, last_or-join, join-assoc, change_children-absent, children_of-absent}
-pub use Rattle.hnodes.specs.Clean.{is_clean}
+pub use Rattle.hnodes.specs.Clean.{has_no_null_or_return}
 pub use Rattle.hnodes.specs.Edits.{graft_last, if_text, text_before, with_char}
 pub use Rattle.hnodes.specs.Forest.{Forest, none, tree, size, children_of, element, text, What, times, join, Attribute, change_children, change_what, doctype}
 pub use Rattle.hnodes.specs.Spots.{name_in, Spot, spot_of, last_or, what_of}
@@ -38,7 +38,7 @@ pub use Rattle.hopen.specs.Stack.{OpenNode, in_scope, is_open}
 pub use Rattle.hparse.proofs.Sorting.{in_order, order-permutes, order-sorted}
 pub use Rattle.hparse.specs.Answer.{error_cmp, Answers, read_text, refused_text}
 pub use Rattle.hparse.specs.Input.{reads_in, input_text, Manner, how_of, settled_in}
-pub use Rattle.hparse.specs.Parse.{ParseOptions, fragment, manner, policy, Parse, Parses, accepted, is_context, start_of, refused_token, refused_tag, ParseCase, first_state, is_name, document, refused_bytes}
+pub use Rattle.hparse.specs.Parse.{ParseOptions, fragment, manner, policy, Parse, Parses, accepted, is_context, start_of, refused_token, refused_tag, ParseCase, first_state, is_context_name, document, refused_bytes}
 pub use Rattle.hparse.specs.Taken.{token_placed, token_taken}
 pub use Rattle.hserialize.specs.ContentTable.{row, texts_in, takes_role, takes_comments}
 pub use Rattle.hserialize.specs.Escaping.{written_char, escaped, escapes_quote, escapes_angles}

@@ -1,5 +1,5 @@
 -- Plain lists are read as their own tokens.
-use Rattle.hlaws.proofs.Names.{and_right, has_references, all_weaker, arith, ◌≡◌, ℕ, Bool, true, false, not, ◌&&◌, ◌||◌, List, [], ◌∷◌, ◌++◌, map, refl, sym, ◌∙◌, ap, subst, true≢false, and_parts, and_from, or_from, or_parts, false_from_ne_true, not-true, bytes_eq-Decides, encodes-chars, scalars-chars, codes, chars, IsUtf8, flat_map, list_all, list_any, Placed, RawKind, Tag, characters, raw_kind, is_refused, is_void, tag_named, tag_text, tags, Entities, IsTable, HasCore, Attribute, Standing, standing_after, is_known, Token, start, end, comment, character, Content, Role, Escaping, escaped, row, takes_role, are_plain_attributes, is_plain_comment, is_clean, is_plain_name_byte, start_tag_text, end_tag_text, bytes_eq, is_ascii_lowercase, or_second, is_plain_name, is_metadata, attribute_text, AreUtf8}
+use Rattle.hlaws.proofs.Names.{and_right, has_references, all_weaker, arith, ◌≡◌, ℕ, Bool, true, false, not, ◌&&◌, ◌||◌, List, [], ◌∷◌, ◌++◌, map, refl, sym, ◌∙◌, ap, subst, true≢false, and_parts, and_from, or_from, or_parts, false_from_ne_true, not-true, bytes_eq-Decides, encodes-chars, scalars-chars, codes, chars, IsUtf8, flat_map, list_all, list_any, Placed, RawKind, Tag, characters, raw_kind, is_refused, is_void, tag_named, tag_text, tags, Entities, IsTable, HasCore, Attribute, Standing, standing_after, is_known, Token, start, end, comment, character, Content, Role, Escaping, escaped, row, takes_role, are_plain_attributes, is_plain_comment, has_no_null_or_return, is_plain_name_byte, start_tag_text, end_tag_text, bytes_eq, is_ascii_lowercase, or_second, is_plain_name, is_metadata, attribute_text, AreUtf8}
 use Rattle.names.specs.declared.raw.RawKind.TheVariants as kind
 use Rattle.names.specs.declared.tag.Tag.TheVariants as tag
 use Rattle.hserialize.specs.declared.content.Content.TheVariants as content
@@ -156,7 +156,7 @@ module _ (table : Entities) (is_table : IsTable table) (core : HasCore table) (h
   attributes_read : (attrs : List (Attribute (List ℕ))) → AreUtf8 attrs → are_plain_attributes attrs ≡ true → AttributesRead table attrs (flat_map (attribute_text how) attrs)
   attributes_read [] u h = record { codes_are = []; spells = spells-nil; are = refl }
   attributes_read (a ∷ others) u h =
-      let clean : is_clean a.1 ≡ true = grind arith in
+      let clean : has_no_null_or_return a.1 ≡ true = grind arith in
       let good = good_attribute a.0 (grind arith) in
       let value = escaped_as table core how setting.Value (chars a.1) (scalars-chars a.1 u.1) (clean_text a.1 u.1 clean) in
       let more = attributes_read others u.2 (grind arith) in
@@ -213,7 +213,7 @@ module _ (table : Entities) (is_table : IsTable table) (core : HasCore table) (h
 
   -- TEXTS AND COMMENTS
 
-  pub text_reads : (t : List ℕ) → IsUtf8 t → is_clean t ≡ true → Reads table (escaped how setting.Text t) (map (λ c. character c) (chars t))
+  pub text_reads : (t : List ℕ) → IsUtf8 t → has_no_null_or_return t ≡ true → Reads table (escaped how setting.Text t) (map (λ c. character c) (chars t))
   text_reads t u clean =
       let w = escaped_as table core how setting.Text (chars t) (scalars-chars t u) (clean_text t u clean) in
       record {
@@ -225,7 +225,7 @@ module _ (table : Entities) (is_table : IsTable table) (core : HasCore table) (h
   pub comment_reads : (t : List ℕ) → IsUtf8 t → is_plain_comment t ≡ true → Reads table ((codes "<!--" ++ t) ++ codes "-->") (comment t ∷ [])
   comment_reads t u h =
       let f = four _ _ _ _ h in
-      let d = and_parts (is_clean t) _ f.0 in
+      let d = and_parts (has_no_null_or_return t) _ f.0 in
       record {
         codes_are = (codes "<!--" ++ chars t) ++ codes "-->";
         spells = spells-append (codes "<!--" ++ t) (codes "<!--" ++ chars t) (codes "-->") (codes "-->") (spells-append (codes "<!--") (codes "<!--") t (chars t) (spells_ascii (codes "<!--") refl) (spells_text t u d.0)) (spells_ascii (codes "-->") refl);

@@ -1,5 +1,5 @@
 -- Plain lists are read as their own tokens, in every context.
-use Rattle.hlaws.proofs.Names.{are_plain_attributes, arith, ◌≡◌, ℕ, Bool, true, false, not, cond, nat_lt, Option, Some, None, List, [], ◌∷◌, ◌++◌, map, length, refl, sym, ◌∙◌, ap, subst, append-nil, append_assoc, and_parts, false≢true, map-append, scalars-chars, codes, chars, IsUtf8, flat_map, Placed, RawKind, characters, raw_kind, is_void, tag_named, Entities, IsTable, HasCore, Attribute, Forest, none, tree, Eof, Standing, at_start, standing_after, has_references, may_end, texts, Token, start, end, comment, character, eof, Content, Role, Escaping, escaped, written_char, row, takes_role, takes_comments, Inside, inside_element, in_context_of, is_form_element, are_content, are_content_if, is_plain_comment, is_among_texts, is_clean, has_part, plain_tokens, start_tag_text, end_tag_text, AreTexts, AreRead, PlainTokens, decoded_text, token_taken, chars-nil, IsUtf8-nil, Bom, Keep, end_errors, Texts, has_no_references, element_text, written_among, AreUtf8, is_raw, texts_in}
+use Rattle.hlaws.proofs.Names.{are_plain_attributes, arith, ◌≡◌, ℕ, Bool, true, false, not, cond, nat_lt, Option, Some, None, List, [], ◌∷◌, ◌++◌, map, length, refl, sym, ◌∙◌, ap, subst, append-nil, append_assoc, and_parts, false≢true, map-append, scalars-chars, codes, chars, IsUtf8, flat_map, Placed, RawKind, characters, raw_kind, is_void, tag_named, Entities, IsTable, HasCore, Attribute, Forest, none, tree, Eof, Standing, at_start, standing_after, has_references, may_end, texts, Token, start, end, comment, character, eof, Content, Role, Escaping, escaped, written_char, row, takes_role, takes_comments, Inside, inside_element, in_context_of, is_form_element, are_content, are_content_if, is_plain_comment, is_among_texts, has_no_null_or_return, has_part, plain_tokens, start_tag_text, end_tag_text, AreTexts, AreRead, PlainTokens, decoded_text, token_taken, chars-nil, IsUtf8-nil, Bom, Keep, end_errors, Texts, has_no_references, element_text, written_among, AreUtf8, is_raw, texts_in}
 use Rattle.names.specs.declared.raw.RawKind.TheVariants as kind
 use Rattle.hnodes.specs.Forest as forest
 use Rattle.htoken.specs.Tokens as cut
@@ -60,7 +60,7 @@ text_context _ _ form l r h a = cc
 pub record OneText (how : Escaping) (which : Texts) (l : Forest (List ℕ)) : Type 0 where
   pub t : List ℕ
   pub utf8 : IsUtf8 t
-  pub clean : is_clean t ≡ true
+  pub clean : has_no_null_or_return t ≡ true
   pub among : is_among_texts which t ≡ true
   pub raw_is : written_among how true l ≡ t
   pub text_is : written_among how false l ≡ escaped how setting.Text t
@@ -205,7 +205,7 @@ module _ (table : Entities) (is_table : IsTable table) (core : HasCore table) (h
       (reads-append table (element_text how name attrs (written_among how (has_no_references (raw_kind (tag_named name))) kids)) (written_among how false rest)
       (start name attrs false ∷ cond (is_void (tag_named name)) [] (plain_tokens texts kids ++ end name ∷ [])) (plain_tokens texts rest) element rest_read)
 
-  pub text_then : (m : ℕ) (t : List ℕ) (kids rest : Forest (List ℕ)) → IsUtf8 t → is_clean t ≡ true → ReadsList rest → ReadsList (tree m (forest.text t) kids rest)
+  pub text_then : (m : ℕ) (t : List ℕ) (kids rest : Forest (List ℕ)) → IsUtf8 t → has_no_null_or_return t ≡ true → ReadsList rest → ReadsList (tree m (forest.text t) kids rest)
   text_then m t kids rest u clean rest_read =
       reads-append table (escaped how setting.Text t) (written_among how false rest) (map (λ c. character c) (chars t)) (plain_tokens texts rest) (text_reads table is_table core how t u clean) rest_read
 

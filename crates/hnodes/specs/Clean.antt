@@ -4,9 +4,9 @@ use Rattle.std.specs.List.{list_all}
 use Rattle.hnodes.specs.Forest.{Attribute}
 
 -- neither NUL nor CR
-abbrev pub is_clean : List ℕ → Bool
-is_clean t = list_all (λ b. not (b == 0 || b == 13)) t
+abbrev pub has_no_null_or_return : List ℕ → Bool
+has_no_null_or_return t = list_all (λ b. not (b == 0 || b == 13)) t
 
 -- all values of attributes
 abbrev pub are_clean : {N : Type 0} → List (Attribute N) → Bool
-are_clean attrs = list_all (λ a. is_clean a.1) attrs
+are_clean attrs = list_all (λ a. has_no_null_or_return a.1) attrs

@@ -1,6 +1,6 @@
 -- The words of the contracts that several files cite, in one place.
 pub use Rattle.hnodes.specs.Attributes.{add_missing, is_present}
-pub use Rattle.hnodes.specs.Clean.{are_clean, is_clean}
+pub use Rattle.hnodes.specs.Clean.{are_clean, has_no_null_or_return}
 pub use Rattle.hnodes.specs.Coding.{coded_nodes}
 pub use Rattle.hnodes.specs.Differing.{names_differ, names_end}
 pub use Rattle.hnodes.specs.Edits.{add_attribute, add_char, add_chars, graft, graft_before, graft_last, make, move_all, place_node, text_before}

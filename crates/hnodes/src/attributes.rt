@@ -2,7 +2,7 @@
 
 ghost use Rattle.std.specs.Prelude.{◌≡◌, ◌&&◌, ◌++◌, ◌∷◌, [], suc, length, map, nat_eq, not, take, OnOk, OnErr, IfOk};
 ghost use Rattle.std.specs.List.{list_any};
-ghost use Rattle.hnodes.specs.Vocabulary.{are_clean, attribute_of, is_clean, names_differ, names_end, attr_numbers};
+ghost use Rattle.hnodes.specs.Vocabulary.{are_clean, attribute_of, has_no_null_or_return, names_differ, names_end, attr_numbers};
 
 use crate::attrs_view::Attrs;
 use crate::indexed_list::IndexedList;
@@ -107,8 +107,8 @@ pub(crate) fn differ(attrs: Attrs, alloc: Global) -> Result<bool, AllocError>
 }
 
 /// Whether a text has neither NUL nor CR.
-pub fn is_clean(text: &str) -> bool
-    ensures { result ≡ is_clean text.now }
+pub fn has_no_null_or_return(text: &str) -> bool
+    ensures { result ≡ has_no_null_or_return text.now }
 {
     text.bytes().all(|byte| byte != 0 && byte != b'\r')
 }
@@ -118,7 +118,7 @@ pub(crate) fn are_clean(attrs: Attrs) -> bool
     ensures { result ≡ are_clean attrs.entry }
 {
     for (_, value) in attrs {
-        if !is_clean(value) {
+        if !has_no_null_or_return(value) {
             return false;
         }
     }

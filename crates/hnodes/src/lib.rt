@@ -15,7 +15,7 @@ mod store;
 mod tree;
 mod walks;
 
-pub use attributes::{FEW_ATTRIBUTES, index_attrs, is_clean, name_number};
+pub use attributes::{FEW_ATTRIBUTES, has_no_null_or_return, index_attrs, name_number};
 pub use attrs_view::Attrs;
 pub use elements::ChildElements;
 pub use indexed_list::{IndexedList, NONE};

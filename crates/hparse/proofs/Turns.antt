@@ -9,7 +9,7 @@ use Rattle.names.specs.declared.refusal.Refusal.TheVariants.{Read}
 use Rattle.htext.specs.Text.{settled_len}
 use Rattle.htext.specs.Decoding.{DecoderState}
 use Rattle.htext.proofs.Fronts.{front_le}
-use Rattle.hparse.specs.Calls.{counted}
+use Rattle.hserialize.specs.Calls.{counted}
 use Rattle.hparse.specs.Reader.{IsRefusedFrom, ReadsInput, ReadsTo, reading_ran_out, reading_failed, reading_stopped, read_to_end}
 use Rattle.hparse.proofs.Pieces.{all_or_memory, has_read, ran_out_after}
 

@@ -103,10 +103,10 @@ is_lower byte = nat_le 97 byte && nat_le byte 122
 abbrev pub is_name_byte : ℕ → Bool
 is_name_byte byte = is_lower byte || (nat_le 48 byte && nat_le byte 57) || byte == 45 || byte == 95 || byte == 58
 
-abbrev pub is_name : List ℕ → Bool
-is_name [] = false
-is_name (first ∷ others) = is_lower first && list_all is_name_byte others
+abbrev pub is_context_name : List ℕ → Bool
+is_context_name [] = false
+is_context_name (first ∷ others) = is_lower first && list_all is_name_byte others
 
 -- whether this may be the name of a fragment's context
 abbrev pub is_context : List ℕ → Bool
-is_context name = nat_le (length name) 64 && is_name name && not (bytes_eq name (codes "colgroup") || is_refused (tag_named name))
+is_context name = nat_le (length name) 64 && is_context_name name && not (bytes_eq name (codes "colgroup") || is_refused (tag_named name))

@@ -5,7 +5,7 @@ use Rattle.std.specs.Prelude.{◌≡◌, ℕ, ◌≤◌, List, ◌++◌, length,
 use Rattle.std.specs.Io.KnownBytes.{Consumes, IsAtEnd}
 use Rattle.names.specs.declared.refusal.Refusal.{Refusal}
 use Rattle.names.specs.declared.refusal.Refusal.TheVariants.{Memory, Read}
-use Rattle.hparse.specs.Calls.{counted}
+use Rattle.hserialize.specs.Calls.{counted}
 
 -- A reader gave these bytes, the first that it had left, and none of its calls failed.
 pub record Gave {S : Type 0} (left : S → Option (List ℕ)) (failed : S → ℕ) (old new : S) (bytes : List ℕ) : Type 0 where

@@ -2,7 +2,7 @@
 
 ghost use Rattle.std.specs.Prelude.{◌≡◌};
 ghost use Rattle.std.specs.List.{list_all};
-ghost use Rattle.hparse.specs.Parse.{is_context, is_lower, is_name, is_name_byte};
+ghost use Rattle.hparse.specs.Parse.{is_context, is_lower, is_context_name, is_name_byte};
 
 use names::Tag;
 
@@ -31,8 +31,8 @@ fn are_name_bytes(bytes: &[u8]) -> bool
 }
 
 /// Whether the name of a context has its form: a lower letter, then lower letters, digits, `-`, `_` and `:`.
-fn is_name(name: &[u8]) -> bool
-    ensures { result ≡ is_name name.now }
+fn is_context_name(name: &[u8]) -> bool
+    ensures { result ≡ is_context_name name.now }
 {
     match name.split_first() {
         None => false,
@@ -46,6 +46,6 @@ pub fn is_context(name: &str) -> bool
     ensures { result ≡ is_context name.now }
 {
     name.len() <= MOST_BYTES
-        && is_name(name.as_bytes())
+        && is_context_name(name.as_bytes())
         && !(name == "colgroup" || Tag::named(name).is_refused())
 }

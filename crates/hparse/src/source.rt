@@ -1,7 +1,8 @@
 //! What bytes are read from.
 
 ghost use Rattle.std.specs.Prelude.{◌≡◌, ℕ, List, Option};
-ghost use Rattle.hparse.specs.Calls.{counted_by, ReadsCall};
+ghost use Rattle.hparse.specs.Calls.{ReadsCall};
+ghost use Rattle.hserialize.specs.Calls.{counted_by};
 
 /// A reader that counts its failed calls.
 pub trait Source {

@@ -5,7 +5,7 @@ pub use Rattle.hnodes.proofs.Families.{spot-children, children-among, first_chil
 pub use Rattle.hnodes.proofs.Forests.{some_inj, join-assoc, times-join}
 pub use Rattle.hnodes.proofs.Levels.{level, Here, Below}
 pub use Rattle.hnodes.proofs.TreeOrder.{own-inside, IsInside, apart, Entered, entered}
-pub use Rattle.hnodes.specs.Clean.{are_clean, is_clean}
+pub use Rattle.hnodes.specs.Clean.{are_clean, has_no_null_or_return}
 pub use Rattle.hnodes.specs.Differing.{names_differ, names_end}
 pub use Rattle.hnodes.specs.Edits.{AreCounted}
 pub use Rattle.hnodes.specs.Forest.{none, tree, Forest, text, comment, join, doctype, Attribute, element, times, roots, size}

@@ -1,5 +1,5 @@
 -- Names and attributes that are plain.
-use Rattle.hserialize.proofs.Names.{◌≡◌, ℕ, ◌<◌, Bool, true, false, not, List, [], ◌∷◌, length, drop, map, refl, sym, ◌∙◌, ap, and_parts, Decides-eqb, ◌&&◌, ◌||◌, nat_eq, suc, Texts, AreNames, text_of, names_differ, are_plain_attributes, ◌-◌, ◌≤◌, inl, inr, get_or, take, arith, cases_lt, take_all, get_or_past, bytes_eq-Decides, bytes_eq, list_all, list_any, is_ascii_lowercase, different, are_clean, is_clean, names_end, Attribute, mapped_attribute, is_plain_name_byte, is_plain_name, has_plain_name, ArePlainTo}
+use Rattle.hserialize.proofs.Names.{◌≡◌, ℕ, ◌<◌, Bool, true, false, not, List, [], ◌∷◌, length, drop, map, refl, sym, ◌∙◌, ap, and_parts, Decides-eqb, ◌&&◌, ◌||◌, nat_eq, suc, Texts, AreNames, text_of, names_differ, are_plain_attributes, ◌-◌, ◌≤◌, inl, inr, get_or, take, arith, cases_lt, take_all, get_or_past, bytes_eq-Decides, bytes_eq, list_all, list_any, is_ascii_lowercase, different, are_clean, has_no_null_or_return, names_end, Attribute, mapped_attribute, is_plain_name_byte, is_plain_name, has_plain_name, ArePlainTo}
 use Rattle.std.proofs.Math.Nat.{le-max_left, le-max_right}
 
 -- a name whose first byte is a lower letter
@@ -44,8 +44,8 @@ pub plain-are : (names : Texts) (attrs : List (Attribute ℕ)) → AreNames name
     → ((list_all (has_plain_name (text_of names)) attrs && are_clean attrs) && names_differ nat_eq attrs) ≡ are_plain_attributes (map (mapped_attribute (text_of names)) attrs)
 plain-are names [] table = refl
 plain-are names (a ∷ attrs) table =
-    apart name (list_all (has_plain_name (text_of names)) attrs) (is_clean a.1) (are_clean attrs) same (names_differ nat_eq attrs)
-    ∙ ap (λ u. name && is_clean a.1 && not same && u) (plain-are names attrs table)
+    apart name (list_all (has_plain_name (text_of names)) attrs) (has_no_null_or_return a.1) (are_clean attrs) same (names_differ nat_eq attrs)
+    ∙ ap (λ u. name && has_no_null_or_return a.1 && not same && u) (plain-are names attrs table)
     ∙ compared name others refl refl (plain-are names attrs table)
   where
     name : Bool
@@ -61,12 +61,12 @@ plain-are names (a ∷ attrs) table =
     others = are_plain_attributes (map (mapped_attribute (text_of names)) attrs)
 
     compared : (u v : Bool) → name ≡ u → others ≡ v → ((list_all (has_plain_name (text_of names)) attrs && are_clean attrs) && names_differ nat_eq attrs) ≡ others
-        → (u && is_clean a.1 && not same && v) ≡ (u && is_clean a.1 && not same_text && v)
+        → (u && has_no_null_or_return a.1 && not same && v) ≡ (u && has_no_null_or_return a.1 && not same_text && v)
     compared false v e e' law = refl
-    compared true false e e' law = none (is_clean a.1) same same_text
+    compared true false e e' law = none (has_no_null_or_return a.1) same same_text
     compared true true e e' law =
         let plain = (and_parts _ _ (and_parts _ _ (law ∙ e')).0).0 in
-        ap (λ w. is_clean a.1 && not w && true) (has-name names a.0 attrs table (plain-within names a.0 e) plain)
+        ap (λ w. has_no_null_or_return a.1 && not w && true) (has-name names a.0 attrs table (plain-within names a.0 e) plain)
 
 -- attributes have plain names if those end no later than the plain ones
 pub plain-to : (names : Texts) (end : ℕ) (attrs : List (Attribute ℕ)) → ArePlainTo (text_of names) end → names_end attrs ≤ end → true ≡ list_all (has_plain_name (text_of names)) attrs

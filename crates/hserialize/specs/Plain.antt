@@ -6,7 +6,7 @@ use Rattle.names.specs.declared.tag.Tag.{Tag}
 use Rattle.names.specs.declared.tag.Tag.TheVariants as tag
 use Rattle.names.specs.Sets.{is_button}
 use Rattle.names.specs.Tags.{tag_named}
-use Rattle.hnodes.specs.Clean.{is_clean}
+use Rattle.hnodes.specs.Clean.{has_no_null_or_return}
 use Rattle.hnodes.specs.Forest.{Attribute, What, document, doctype, element, comment, text, Forest, none, tree}
 use Rattle.hserialize.specs.Walk.{inserts_marker}
 use Rattle.hserialize.specs.Words.{is_empty_text}
@@ -35,10 +35,10 @@ is_among_texts texts.Script t = not (has_part (codes "</") t) && not (has_part (
 is_among_texts texts.None t = false
 
 abbrev pub is_plain_text : Texts → List ℕ → Bool
-is_plain_text allowed t = not (is_empty_text t) && is_clean t && is_among_texts allowed t
+is_plain_text allowed t = not (is_empty_text t) && has_no_null_or_return t && is_among_texts allowed t
 
 abbrev pub is_plain_comment : List ℕ → Bool
-is_plain_comment t = is_clean t && not (has_part (codes "-->") t) && not (has_part (codes "--!>") t) && not (begins_with (codes ">") t)
+is_plain_comment t = has_no_null_or_return t && not (has_part (codes "-->") t) && not (has_part (codes "--!>") t) && not (begins_with (codes ">") t)
     && not (begins_with (codes "->") t)
 
 -- a lower letter, then lower letters, digits, `-`, `_` and `:`
@@ -52,7 +52,7 @@ is_plain_name (b ∷ bs) = is_ascii_lowercase b && list_all is_plain_name_byte b
 -- attributes with such names, no two of which are the same
 abbrev pub are_plain_attributes : List (Attribute (List ℕ)) → Bool
 are_plain_attributes [] = true
-are_plain_attributes (a ∷ others) = is_plain_name a.0 && is_clean a.1 && not (list_any (λ b. bytes_eq a.0 b.0) others) && are_plain_attributes others
+are_plain_attributes (a ∷ others) = is_plain_name a.0 && has_no_null_or_return a.1 && not (list_any (λ b. bytes_eq a.0 b.0) others) && are_plain_attributes others
 
 -- LISTS OF TREES
 

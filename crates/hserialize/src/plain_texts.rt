@@ -4,7 +4,7 @@ ghost use Rattle.std.specs.Prelude.{◌≡◌};
 ghost use Rattle.hserialize.specs.Vocabulary.{begins_with, has_part, is_among_texts, is_plain_text, is_plain_comment};
 
 use crate::content::Texts;
-use hnodes::is_clean;
+use hnodes::has_no_null_or_return;
 
 /// Whether a part is in a text.
 fn has_part(text: &str, part: &str) -> bool
@@ -44,14 +44,14 @@ fn is_among_texts(allowed: Texts, text: &str) -> bool
 pub(crate) fn is_plain_text(allowed: Texts, text: &str) -> bool
     ensures { result ≡ is_plain_text allowed text.now }
 {
-    !text.is_empty() && is_clean(text) && is_among_texts(allowed, text)
+    !text.is_empty() && has_no_null_or_return(text) && is_among_texts(allowed, text)
 }
 
 /// Whether the data of a comment is plain.
 pub(crate) fn is_plain_comment(text: &str) -> bool
     ensures { result ≡ is_plain_comment text.now }
 {
-    is_clean(text)
+    has_no_null_or_return(text)
         && !has_part(text, "-->")
         && !has_part(text, "--!>")
         && !begins_with(text, ">")

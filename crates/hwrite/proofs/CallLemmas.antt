@@ -1,16 +1,8 @@
 -- Calls one after another.
-use Rattle.hwrite.proofs.Vocabulary.{◌≡◌, ℕ, List, [], ◌∷◌, ◌++◌, Option, Result, Ok, Err, refl, sym, ap, subst, ◌∙◌, append_assoc, OnOk, IfErr, ◌≢◌, Appends, Refusal, Write, counted, AppendsBeginning}
-use Rattle.std.proofs.Common.{OnErr}
+use Rattle.hwrite.proofs.Vocabulary.{◌≡◌, ℕ, List, [], ◌∷◌, ◌++◌, Option, Result, Ok, Err, refl, sym, ap, subst, ◌∙◌, append_assoc, ◌≢◌, Appends, Refusal, counted, AppendsBeginning}
 use Rattle.std.specs.Prelude.{IsErrAnd}
 use Rattle.std.proofs.KnownBytes.{Appends-nil, Appends-trans}
 use Rattle.hwrite.specs.Calls.{WritesAll}
-use Rattle.hserialize.specs.Calls.{counted_by_result}
-
--- the clauses of `write_all` as one fact
-pub writes_all : (old new : Option (List ℕ)) (before after : ℕ) (bytes : List ℕ) (r : Result (Unit {0}) Refusal) → after ≡ counted_by_result before r
-    → OnOk r (Appends old new bytes) → IfErr r (λ refusal. refusal ≡ Write) → OnErr r (AppendsBeginning old new bytes) → WritesAll old before new after bytes r
-writes_all old new before after bytes (Ok _) count all cause beginning = (all, count)
-writes_all old new before after bytes (Err refusal) count all cause beginning = (cause, beginning, count)
 
 not_nil : (xs ys : List ℕ) → xs ≢ [] → xs ++ ys ≢ []
 not_nil [] ys h e = h refl

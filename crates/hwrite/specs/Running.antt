@@ -5,7 +5,7 @@ use Rattle.std.specs.Prelude.{◌≡◌, ◌⊎◌, ℕ, ◌≤◌, List, [], �
 use Rattle.std.specs.Io.KnownBytes.{Keeps, Appends, Consumes, IsAtEnd}
 use Rattle.names.specs.declared.refusal.Refusal.{Refusal}
 use Rattle.names.specs.declared.refusal.Refusal.TheVariants.{Memory, Read, Write, BadContext}
-use Rattle.hparse.specs.Calls.{counted}
+use Rattle.hserialize.specs.Calls.{counted}
 use Rattle.hparse.specs.Reader.{Gave, IsRefusedFrom}
 use Rattle.hparse.specs.Parse.{ParseOptions}
 use Rattle.hparse.specs.declared.parser.Parser.{Parser}

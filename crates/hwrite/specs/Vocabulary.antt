@@ -1,12 +1,12 @@
 -- The words of the contracts, in one place.
 pub use Rattle.hparse.specs.Answer.{Answers, of_document}
-pub use Rattle.hparse.specs.Calls.{ReadsCall, counted, counted_by}
+pub use Rattle.hparse.specs.Calls.{ReadsCall}
 pub use Rattle.hparse.specs.Into.{as_document}
 pub use Rattle.hparse.specs.PageText.{page_trees}
 pub use Rattle.hparse.specs.Parsing.{options_of}
 pub use Rattle.hparse.specs.TokenRun.{TokensMean}
 pub use Rattle.hparse.specs.Unrefused.{IsUnrefusedText}
-pub use Rattle.hserialize.specs.Calls.{Writes, counted_unless}
+pub use Rattle.hserialize.specs.Calls.{Writes, counted, counted_by, counted_unless}
 pub use Rattle.hserialize.specs.Output.{IsFlushed, WritesText}
 pub use Rattle.htoken.specs.Token.{Char, Comment, Doctype, End, Start, Tok, doctype_token}
 pub use Rattle.hwrite.specs.Command.{own_context}
