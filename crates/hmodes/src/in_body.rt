@@ -1,7 +1,6 @@
-//! The "in body" and "text" insertion modes, and those after the body (HTML Standard, `#parsing-main-inbody`, `#parsing-main-incdata`
-//! and `#parsing-main-afterbody`).
+//! The "in body" and "text" insertion modes (HTML Standard, `#parsing-main-inbody` and `#parsing-main-incdata`).
 
-ghost use Rattle.hmodes.specs.Vocabulary.{in_body, text, after_body, after_after_body, body_ends, character_in_body, End, ◌▸◌, choose, error, to, again, insert, reconstruct, has_in, InBody, AfterBody, IsSound, numbers, ended, StateGives, perform, character, state_of, Start, other_end, Performs, AlwaysPerforms, Does};
+ghost use Rattle.hmodes.specs.Vocabulary.{in_body, text, body_ends, character_in_body, End, ◌▸◌, choose, error, to, insert, reconstruct, has_in, InBody, AfterBody, IsSound, numbers, ended, StateGives, perform, character, state_of, Start, other_end, Performs, AlwaysPerforms, Does};
 ghost use Rattle.hmodes.specs.declared.family.Family.TheVariants as family;
 ghost use Rattle.hopen.specs.declared.scope.Scope.TheVariants as scope;
 ghost use Rattle.names.specs.declared.tag.Tag.TheVariants as tag;
@@ -178,50 +177,6 @@ impl<'q> TreeConstruction<'q> {
             }
             TokenKind::End(_) => self.pop_and_go(self.control.saved, Flow::Done),
             _ => self.ignore(Mode::Text, at),
-        }
-    }
-
-    /// The "after body" insertion mode (`#parsing-main-afterbody`).
-    pub(crate) fn after_body(&mut self, kind: TokenKind, token: &mut Token, at: u64) -> Ruling
-        ensures { Performs at (after_body kind) token.old self.old result token.new self.new }
-    {
-        match kind {
-            TokenKind::Ws => self.character_in_body(token, at),
-            TokenKind::Comment => self.comment_in_first(token, at),
-            TokenKind::Doctype => self.ignore(Mode::AfterBody, at),
-            TokenKind::Start(Family::Html) => self.html_again(token, at),
-            TokenKind::End(Family::Html) => {
-                if self.context.is_some() {
-                    return self.ignore(Mode::AfterBody, at);
-                }
-                self.control.mode = Mode::AfterAfterBody;
-                Ok(Flow::Done)
-            }
-            TokenKind::Eof => Ok(Flow::Done),
-            _ => self.back_to_body(Mode::AfterBody, at),
-        }
-    }
-
-    /// What belongs in the body comes after it.
-    fn back_to_body(&mut self, mode: Mode, at: u64) -> Ruling
-        ensures { AlwaysPerforms at (error mode ▸ to InBody ▸ again) self.old result self.new }
-    {
-        self.error(mode, at)?;
-        self.control.mode = Mode::InBody;
-        Ok(Flow::Again)
-    }
-
-    /// The "after after body" insertion mode (`#the-after-after-body-insertion-mode`).
-    pub(crate) fn after_after_body(&mut self, kind: TokenKind, token: &mut Token, at: u64) -> Ruling
-        ensures { Performs at (after_after_body kind) token.old self.old result token.new self.new }
-    {
-        match kind {
-            TokenKind::Comment => self.comment_in_document(token, at),
-            TokenKind::Doctype => self.ignore(Mode::InBody, at),
-            TokenKind::Ws => self.character_in_body(token, at),
-            TokenKind::Start(Family::Html) => self.html_again(token, at),
-            TokenKind::Eof => Ok(Flow::Done),
-            _ => self.back_to_body(Mode::AfterAfterBody, at),
         }
     }
 }

@@ -1,184 +1,18 @@
-//! The insertion modes up to the body (HTML Standard, `#the-initial-insertion-mode` to `#the-after-head-insertion-mode`).
+//! The insertion modes of the head (HTML Standard, `#parsing-main-inhead` to `#the-after-head-insertion-mode`).
 
-ghost use Rattle.std.specs.Prelude.{◌≡◌, ◌<◌, [], IfSome, string_bytes, option_map};
-ghost use Rattle.std.specs.Option.{option_map_or};
-ghost use Rattle.hmodes.specs.Vocabulary.{optional_text, list_matches, is_text, conforms, forces_quirks, doctype_node, initial, state_of, token_of, before_html, html_unwritten, before_head, head_unwritten, Performs, AlwaysPerforms, Does};
+ghost use Rattle.std.specs.Prelude.{◌≡◌, ◌<◌, IfSome};
+ghost use Rattle.hmodes.specs.Vocabulary.{state_of, Performs, AlwaysPerforms, Does};
 ghost use Rattle.hmodes.specs.Vocabulary.{in_head, in_head_noscript, noscript_ends, after_head, body_unwritten, late, removed, error, ended, with_site, ◌▸◌, to, insert, pop, AfterHead, push_head};
-ghost use Rattle.hnodes.specs.Forest as forest;
 
 use crate::family::Family;
 use crate::mode::Mode;
-use crate::token::{take_attrs, token_name};
 use crate::token_kind::TokenKind;
 use crate::tree_construction::{Flow, Ruling, TreeConstruction, done};
-use hnodes::DocumentType;
 use hopen::Open;
 use htoken::Token;
 use names::{Refusal, Tag};
-use std::alloc::Global;
-
-/// The system identifier that is no error.
-const LEGACY_COMPAT: &str = "about:legacy-compat";
-
-/// Whether a name or an identifier is there and is this text.
-fn is_text(text: &str, found: &Option<String>) -> bool
-    ensures { result ≡ is_text text.now (optional_text found.now) }
-{
-    match found {
-        Some(found) => text == found.as_str(),
-        None => false,
-    }
-}
-
-/// Whether a doctype is no error.
-fn conforms(token: &Token) -> bool
-    ensures { result ≡ conforms (token_of token.now) }
-{
-    match token {
-        Token::Doctype { doctype, .. } => {
-            is_text("html", &doctype.name)
-                && doctype.public_id.is_none()
-                && (doctype.system_id.is_none() || is_text(LEGACY_COMPAT, &doctype.system_id))
-        }
-        _ => false,
-    }
-}
-
-/// Takes the texts out of a doctype; what is missing is empty.
-fn take_doctype(alloc: Global, token: &mut Token) -> DocumentType
-    ensures { forest.doctype (string_bytes result.name) (string_bytes result.public_id) (string_bytes result.system_id) ≡ doctype_node (token_of token.old) }
-{
-    match token {
-        Token::Doctype { doctype, .. } => DocumentType {
-            name: doctype.name.take().unwrap_or(String::new(alloc)),
-            public_id: doctype.public_id.take().unwrap_or(String::new(alloc)),
-            system_id: doctype.system_id.take().unwrap_or(String::new(alloc)),
-        },
-        _ => DocumentType {
-            name: String::new(alloc),
-            public_id: String::new(alloc),
-            system_id: String::new(alloc),
-        },
-    }
-}
 
 impl<'q> TreeConstruction<'q> {
-    /// The "initial" insertion mode (`#the-initial-insertion-mode`).
-    pub(crate) fn initial(&mut self, kind: TokenKind, token: &mut Token, at: u64) -> Ruling
-        ensures { Performs at (initial kind) token.old self.old result token.new self.new }
-    {
-        match kind {
-            TokenKind::Ws => Ok(Flow::Done),
-            TokenKind::Comment => self.comment_in_document(token, at),
-            TokenKind::Doctype => {
-                self.error_unless(conforms(token), Mode::Initial, at)?;
-                let quirks = self.forces_quirks(token);
-                let texts = take_doctype(self.alloc, token);
-                self.site.insert_doctype(texts, at)?;
-                self.control.quirks = quirks;
-                self.control.mode = Mode::BeforeHtml;
-                Ok(Flow::Done)
-            }
-            _ => {
-                self.error(Mode::Initial, at)?;
-                self.control.quirks = true;
-                self.control.mode = Mode::BeforeHtml;
-                Ok(Flow::Again)
-            }
-        }
-    }
-
-    /// Whether the quirks list has these identifiers.
-    fn is_listed(&self, public: Option<&str>, system: Option<&str>) -> bool
-        ensures { result ≡ list_matches (option_map_or (λ list. list.now) self.now.quirks_list []) (option_map (λ text. text.now) public.entry)
-            (option_map (λ text. text.now) system.entry) }
-    {
-        match self.quirks_list {
-            Some(list) => list.matches(public, system),
-            None => false,
-        }
-    }
-
-    /// Whether a doctype is one for quirks mode.
-    fn forces_quirks(&self, token: &Token) -> bool
-        ensures { result ≡ forces_quirks (state_of self.now) (token_of token.now) }
-    {
-        match token {
-            Token::Doctype { doctype, .. } => {
-                doctype.forced
-                    || !is_text("html", &doctype.name)
-                    || self.is_listed(doctype.public_id.as_deref(), doctype.system_id.as_deref())
-            }
-            _ => false,
-        }
-    }
-
-    /// The "before html" insertion mode (`#the-before-html-insertion-mode`).
-    pub(crate) fn before_html(&mut self, kind: TokenKind, token: &mut Token, at: u64) -> Ruling
-        ensures { Performs at (before_html kind) token.old self.old result token.new self.new }
-    {
-        match kind {
-            TokenKind::Comment => self.comment_in_document(token, at),
-            TokenKind::Ws => Ok(Flow::Done),
-            TokenKind::Start(Family::Html) => {
-                let name = token_name(token);
-                let mut attrs = take_attrs(self.alloc, token);
-                let place = self.site.place_in_document();
-                self.site.insert_element(name, &mut attrs, place, at)?;
-                self.control.mode = Mode::BeforeHead;
-                Ok(Flow::Done)
-            }
-            TokenKind::End(Family::Head | Family::Body | Family::Html | Family::Br) => {
-                self.html_unwritten(at)
-            }
-            TokenKind::Doctype | TokenKind::End(_) => self.ignore(Mode::BeforeHtml, at),
-            _ => self.html_unwritten(at),
-        }
-    }
-
-    /// An html that no tag began.
-    fn html_unwritten(&mut self, at: u64) -> Ruling
-        ensures { AlwaysPerforms at html_unwritten self.old result self.new }
-    {
-        let place = self.site.place_in_document();
-        self.site
-            .insert_element(Tag::Html.number(), &mut Vec::new(self.alloc), place, at)?;
-        self.control.mode = Mode::BeforeHead;
-        Ok(Flow::Again)
-    }
-
-    /// The "before head" insertion mode (`#the-before-head-insertion-mode`).
-    pub(crate) fn before_head(&mut self, kind: TokenKind, token: &mut Token, at: u64) -> Ruling
-        ensures { Performs at (before_head kind) token.old self.old result token.new self.new }
-    {
-        match kind {
-            TokenKind::Ws => Ok(Flow::Done),
-            TokenKind::Comment => self.insert_comment(token, at),
-            TokenKind::Start(Family::Html) => self.html_again(token, at),
-            TokenKind::Start(Family::Head) => {
-                self.insert(token, at)?;
-                self.control.head = Some(self.current_node());
-                self.control.mode = Mode::InHead;
-                Ok(Flow::Done)
-            }
-            TokenKind::End(Family::Head | Family::Body | Family::Html | Family::Br) => {
-                self.head_unwritten(at)
-            }
-            TokenKind::Doctype | TokenKind::End(_) => self.ignore(Mode::BeforeHead, at),
-            _ => self.head_unwritten(at),
-        }
-    }
-
-    /// A head that no tag began.
-    fn head_unwritten(&mut self, at: u64) -> Ruling
-        ensures { AlwaysPerforms at head_unwritten self.old result self.new }
-    {
-        self.insert_named(Tag::Head.number(), at)?;
-        self.control.head = Some(self.current_node());
-        self.control.mode = Mode::InHead;
-        Ok(Flow::Again)
-    }
-
     /// The "in head" insertion mode (`#parsing-main-inhead`).
     pub(crate) fn in_head(&mut self, kind: TokenKind, token: &mut Token, at: u64) -> Ruling
         ensures { Performs at (in_head kind) token.old self.old result token.new self.new }

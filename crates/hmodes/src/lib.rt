@@ -2,17 +2,24 @@
 //! `#tree-construction` and `#parsing-html-fragments`).
 #![tactic(auto)]
 
+mod after_body;
+mod before_head;
 mod beginning;
 mod builder;
 mod elements;
 pub mod family;
 mod in_body;
+mod in_caption;
+mod in_cell;
 mod in_head;
+mod in_row;
 mod in_table;
+mod initial;
 mod laws;
 mod limits;
 mod mode;
 mod step;
+mod table_body;
 mod table_text;
 mod token;
 pub mod token_kind;
