@@ -3,7 +3,7 @@ pub use Rattle.hadopt.specs.Adopts.{most_kept, node_replaced, inner_turn, inner_
 pub use Rattle.hadopt.specs.Adopts.{outer_turn, outer_loop, is_unlisted, adopted}
 pub use Rattle.hadopt.specs.AfterInnerLoop.{AfterInnerLoop, WithFurthestBlock}
 pub use Rattle.hadopt.specs.Closes.{closed, closed_p, other_end, popped_past, popped_to}
-pub use Rattle.hadopt.specs.Creates.{new_attributes, Creates}
+pub use Rattle.hadopt.specs.Creates.{Creates}
 pub use Rattle.hadopt.specs.Gives.{Gives}
 pub use Rattle.hadopt.specs.InnerLoops.{AreDifferent}
 pub use Rattle.hadopt.specs.Inserts.{made, added, with_open, inserted, put, put_each, listed, with_missing}

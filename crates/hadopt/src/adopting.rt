@@ -7,7 +7,6 @@ ghost use Rattle.hadopt.specs.Vocabulary.{WithFurthestBlock, AreDifferent, inner
 ghost use Rattle.hadopt.specs.Vocabulary.{without, open_of, is_node, is_open, Gives, made, Goes, stack, trees, with_stack, with_trees, before, furthest_block, entry_is, numbers, and_then};
 ghost use Rattle.hadopt.specs.Vocabulary.{adopted, IsSound, changed, item_put_before, EntryOf, InPlace, move_all, above, is_in_scope, stops_node, tag_of, Default};
 
-use crate::insertion::NewAttributes;
 use crate::listing::copy;
 use crate::site::Site;
 use hnodes::{NodeId, Place};
@@ -54,7 +53,7 @@ impl Site {
         ensures last_node { IfOk result (λ c. (0 < c.last_node) × (c.last_node < self.new.nodes.made)) }
         ensures few { self.new.nodes.made ≤ self.old.nodes.made + 1 }
     {
-        let new = self.create(entry.name, NewAttributes::Shared(entry.attrs), at)?;
+        let new = self.create_sharing(entry.name, entry.attrs, at)?;
         self.note_again(new, entry.node)?;
         // Step 4.13.8
         self.graft(inner.last_node, Place::LastIn(new));
@@ -156,11 +155,7 @@ impl Site {
         let place = self.place_in(common_ancestor);
         self.graft(inner.last_node, place);
         // Step 4.15
-        let new = self.create(
-            formatting_element.name,
-            NewAttributes::Shared(formatting_element.attrs),
-            at,
-        )?;
+        let new = self.create_sharing(formatting_element.name, formatting_element.attrs, at)?;
         self.note_again(new, formatting_element.node)?;
         // Steps 4.16 and 4.17
         self.move_children(furthest_block, new);

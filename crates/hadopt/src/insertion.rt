@@ -2,24 +2,13 @@
 
 ghost use Rattle.std.specs.Prelude.{◌≡◌, ◌<◌, ◌∷◌, false, map, nat_eq, IfOk, string_bytes};
 ghost use Rattle.std.specs.Str.{chars};
-ghost use Rattle.hadopt.specs.Vocabulary.{IsPlace, graft, place_node, IsOutside, attribute_of, LastIn, open_of, Gives, IsSound, PlaceStands, numbers, Goes, and_then, stack, trees, with_trees, comment, doctype, element, placed, new_attributes, Creates};
+ghost use Rattle.hadopt.specs.Vocabulary.{IsPlace, graft, place_node, IsOutside, attribute_of, LastIn, open_of, Gives, IsSound, PlaceStands, numbers, Goes, and_then, stack, trees, with_trees, comment, doctype, element, placed, Creates};
 ghost use Rattle.hadopt.specs.Vocabulary.{number_of, added, with_open, inserted, put, put_each, listed, with_missing, OpenStands};
 
 use crate::site::Site;
 use hnodes::{Attributes, DocumentType, NodeId, Place};
 use hopen::Open;
 use names::{Attr, NameId, Refusal, Tag};
-
-/// Where a new element's attributes come from.
-#[derive(Drop)]
-pub(crate) enum NewAttributes<'a> {
-    /// From a list, which they leave.
-    Taken(&'a mut Vec<Attr>),
-    /// They are shared.
-    Shared(Attributes),
-    /// Others share them, and a few are copied.
-    Copied(&'a Attributes),
-}
 
 impl Site {
     /// Inserts an HTML element (`#insert-an-html-element`): puts a new one at a place and makes it the current node. `at` is the byte
@@ -37,42 +26,79 @@ impl Site {
         ensures number { IfOk result (λ n. n ≡ self.old.nodes.made) }
         ensures kept { IsSound numbers self.old → PlaceStands place (trees self.old) → IfOk result (λ _. IsSound numbers self.new) }
     {
-        self.insert(name, NewAttributes::Taken(attrs), place, at)
-    }
-
-    /// Inserts a new element at a place, and makes it the current node.
-    #[inline(always)]
-    pub(crate) fn insert(
-        &mut self,
-        name: NameId,
-        attrs: NewAttributes,
-        place: Place,
-        at: u64,
-    ) -> Result<NodeId, Refusal>
-        requires { IsPlace place self.old.nodes }
-        ensures done { Gives result self.new (inserted at name (new_attributes attrs.entry) place self.old) }
-        ensures number { IfOk result (λ n. n ≡ self.old.nodes.made) }
-    {
         let node = self.create(name, attrs, at)?;
         self.enter(node, name, place, at)?;
         Ok(node)
     }
 
-    /// Creates an element for a token (`#create-an-element-for-the-token`), which has no parent yet.
+    /// Inserts a new element of attributes that its entry shares, and makes it the current node.
     #[inline(always)]
-    pub(crate) fn create(
+    fn insert_copying(
         &mut self,
         name: NameId,
-        attrs: NewAttributes,
+        attrs: &Attributes,
+        place: Place,
         at: u64,
     ) -> Result<NodeId, Refusal>
-        ensures { Creates (element name (new_attributes attrs.entry)) at self.old self.new result }
+        requires { IsPlace place self.old.nodes }
+        ensures done { Gives result self.new (inserted at name attrs.now place self.old) }
+        ensures number { IfOk result (λ n. n ≡ self.old.nodes.made) }
     {
-        match attrs {
-            NewAttributes::Taken(attrs) => self.tree.create_element_from(name, attrs, at),
-            NewAttributes::Shared(attrs) => self.tree.create_sharing(name, attrs, at),
-            NewAttributes::Copied(attrs) => self.tree.create_copying(name, attrs, at),
-        }
+        let node = self.create_copying(name, attrs, at)?;
+        self.enter(node, name, place, at)?;
+        Ok(node)
+    }
+
+    /// Inserts a new element that shares its attributes, and makes it the current node.
+    #[inline(always)]
+    pub(crate) fn insert_sharing(
+        &mut self,
+        name: NameId,
+        attrs: Attributes,
+        place: Place,
+        at: u64,
+    ) -> Result<NodeId, Refusal>
+        requires { IsPlace place self.old.nodes }
+        ensures done { Gives result self.new (inserted at name attrs place self.old) }
+        ensures number { IfOk result (λ n. n ≡ self.old.nodes.made) }
+    {
+        let node = self.create_sharing(name, attrs, at)?;
+        self.enter(node, name, place, at)?;
+        Ok(node)
+    }
+
+    /// Creates an element for a token (`#create-an-element-for-the-token`), which has no parent yet. The attributes leave their list.
+    #[inline(always)]
+    fn create(&mut self, name: NameId, attrs: &mut Vec<Attr>, at: u64) -> Result<NodeId, Refusal>
+        ensures { Creates (element name (map attribute_of attrs.old.items)) at self.old self.new result }
+    {
+        self.tree.create_element_from(name, attrs, at)
+    }
+
+    /// The same, which shares its attributes.
+    #[inline(always)]
+    pub(crate) fn create_sharing(
+        &mut self,
+        name: NameId,
+        attrs: Attributes,
+        at: u64,
+    ) -> Result<NodeId, Refusal>
+        ensures { Creates (element name attrs) at self.old self.new result }
+    {
+        self.tree.create_sharing(name, attrs, at)
+    }
+
+    /// The same, of attributes that others share, a few of which are copied.
+    #[inline(always)]
+    fn create_copying(
+        &mut self,
+        name: NameId,
+        attrs: &Attributes,
+        at: u64,
+    ) -> Result<NodeId, Refusal>
+        ensures { Creates (element name attrs.now) at self.old self.new result }
+    {
+        self.tree.create_copying(name, attrs, at)
     }
 
     /// Puts a new element at a place and makes it the current node.
@@ -103,7 +129,7 @@ impl Site {
         ensures kept { IsSound numbers self.old → PlaceStands place (trees self.old) → nat_eq name (number_of Tag.Table) ≡ false
             → IfOk result (λ _. IsSound numbers self.new) }
     {
-        let new = self.insert(name, NewAttributes::Copied(&attrs), place, at)?;
+        let new = self.insert_copying(name, &attrs, place, at)?;
         self.list.push(new, name, attrs)?;
         Ok(new)
     }

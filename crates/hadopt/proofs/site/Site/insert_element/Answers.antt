@@ -1,6 +1,9 @@
-use Rattle.hadopt.proofs.Names.{numbers}
+use Rattle.hadopt.proofs.Names.{rules, numbers, ℕ, Ok, Result, Refusal}
 use Rattle.hadopt.proofs.Inserting.{gives-kept, inserted-kept}
 use Rattle.hadopt.proofs.site.Site.insert_element.Goals as goal
 
+pub returns-clause-done : goal.returns-clause-done
+returns-clause-done c = search rules
+
 pub returns-clause-kept : goal.returns-clause-kept
-returns-clause-kept c = λ k stands. gives-kept numbers c.insert.result _ _ c.insert.ensures.done (inserted-kept numbers c.args.at c.args.name _ c.args.place c.args.self.now stands k)
+returns-clause-kept c = λ k stands. let r : Result ℕ Refusal = Ok c.in_ok-node.node in gives-kept numbers r _ _ (returns-clause-done c) (inserted-kept numbers c.args.at c.args.name _ c.args.place c.args.self.now stands k)
