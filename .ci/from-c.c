@@ -506,33 +506,30 @@ static int is_measured(void) {
         && jz_text(JZ_TREE, page, sizeof page / 2, &options, &none, 0, &answer) == JZ_TOO_SHORT && answer.length > 2500000000;
 }
 
-/* The kilobytes of memory that are resident, and the most that were. */
-static long resident(void) {
-    long pages = 0;
-    FILE *file = fopen("/proc/self/statm", "r");
-    check(file && fscanf(file, "%*d %ld", &pages) == 1, "the memory that is resident");
-    if (file) fclose(file);
-    return pages * (sysconf(_SC_PAGESIZE) / 1024);
-}
-
-static long most_resident(void) {
-    struct rusage most;
-    return getrusage(RUSAGE_SELF, &most) ? 1L << 40 : most.ru_maxrss;
+/* The kilobytes of memory that are resident (VmRSS), or the most that were (VmHWM). */
+static long kilobytes(const char *what) {
+    char line[128];
+    long found = -1;
+    FILE *file = fopen("/proc/self/status", "r");
+    while (file && fgets(line, sizeof line, file))
+        if (!strncmp(line, what, 5)) found = atol(line + 6);
+    check(file && !fclose(file) && found >= 0, "the memory that is resident");
+    return found;
 }
 
 /* Ten parses of 2 MB need no more than 1.5 times the memory of one, and leave little of it behind. (It wants an untried malloc.) */
 static int is_given_back(void) {
     static char page[2200000];
     size_t length = lists_page(page, 18000);
-    long before = resident(), first = 0;
+    long before = kilobytes("VmRSS"), first = 0;
     for (int i = 0; i < 10; i++) {
         made it;
         if (make(PAGE, page, length, &it) != JZ_OK) return 0;
         give_back(PAGE, &it);
-        if (i == 0) first = most_resident() - before;
+        if (i == 0) first = kilobytes("VmHWM") - before;
     }
-    dprintf(1, "a page of %zu bytes: one parse takes %ld KB, ten take %ld and keep %ld. ", length, first, most_resident() - before, resident() - before);
-    return resident() - before <= first / 4 && most_resident() - before <= first * 3 / 2;
+    dprintf(1, "a page of %zu bytes: one parse takes %ld KB, ten take %ld and keep %ld. ", length, first, kilobytes("VmHWM") - before, kilobytes("VmRSS") - before);
+    return kilobytes("VmRSS") - before <= first / 4 && kilobytes("VmHWM") - before <= first * 3 / 2;
 }
 
 /* The rooms of a tree are told in the memory of its parse, however long its words are: of 128 KB, in which each p has a b with the same long
@@ -542,14 +539,14 @@ static int is_counted(void) {
     size_t at = 0, half = sizeof page / 2;
     at += (size_t)sprintf((char *)page, "<p><b id=%0*d>", (int)half, 0);
     for (; at + 4 <= sizeof page; at += 4) memcpy(page + at, "<p>x", 4);
-    long before = resident(), parse;
+    long before = kilobytes("VmRSS"), parse;
     jz_answer answer;
     uint8_t none;
     if (jz_text(JZ_ERRORS, page, at, &options, &none, 0, &answer) != JZ_TOO_SHORT) return 0;
-    parse = most_resident() - before;
+    parse = kilobytes("VmHWM") - before;
     if (jz_tree_rooms(page, at, &options, &answer) != JZ_OK || answer.length <= half * (half / 4 - 64)) return 0;
-    dprintf(1, "a tree with %ld MB of words: its parse takes %ld KB, its rooms %ld. ", (long)answer.length >> 20, parse, most_resident() - before);
-    return most_resident() - before <= 3 * parse;
+    dprintf(1, "a tree with %ld MB of words: its parse takes %ld KB, its rooms %ld. ", (long)answer.length >> 20, parse, kilobytes("VmHWM") - before);
+    return kilobytes("VmHWM") - before <= 3 * parse;
 }
 
 enum { NESTED = 100000, THREADS = 4 };
