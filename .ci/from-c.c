@@ -352,10 +352,9 @@ static void check_parses(void) {
     }
 }
 
-enum { ATTRIBUTES = 20000 };
-
 /* That going through attributes, and looking one up, look at each byte once. */
 static void check_attributes(void) {
+    enum { ATTRIBUTES = 20000 };
     static char page[24 * ATTRIBUTES];
     char *end = page + sprintf(page, "x<p");
     jz_bytes name, value;
