@@ -1,6 +1,6 @@
 -- What comes of new links between two neighbours: a node leaves its place, or comes to another, and links are to nodes that are there.
-use Rattle.hnodes.proofs.Names.{◌≡◌, ◌≢◌, ℕ, ◌+◌, ◌<◌, ◌≤◌, Option, Some, None, refl, sym, ◌∙◌, ap, subst, arith, eq-eqb, ne_eqb, option_map, Forest, none, tree, times, first_or, last_or, Row, Look, Linked, at_row, after_link, before_link, spliced, with_first, with_last, with_next, with_previous, with_ends, Bool, eqb, cond, ◌⊎◌, inl, inr, join, tree_at, cut, change_children, children_of, Loose, detached, with_place, What, hooked, suc, ltb, le-leb, RowsStandIn, parent_in, previous_in, next_in, first_in, last_in}
-use Rattle.hnodes.proofs.Linked.{Linked-end, Linked-begin, last-among, first-among, Linked-agree, Loose-agree, Linked-join, Linked-split, Holds, Loose-join, Loose-split, Loose-holds, Loose-children}
+use Rattle.hnodes.proofs.Names.{◌≡◌, ◌≢◌, ℕ, ◌+◌, ◌<◌, ◌≤◌, Option, Some, None, refl, sym, ◌∙◌, ap, subst, arith, eq-eqb, ne_eqb, option_map, Forest, none, tree, times, first_or, last_or, Row, Look, Linked, at_row, at_link, after_link, spliced, with_first, with_last, with_next, with_previous, with_ends, Bool, eqb, cond, ◌⊎◌, inl, inr, join, tree_at, cut, change_children, children_of, Loose, detached, with_place, What, hooked, suc, ltb, le-leb, RowsStandIn, parent_in, previous_in, next_in, first_in, last_in}
+use Rattle.hnodes.proofs.Linked.{Linked-end, Linked-begin, last-among, first-among, Linked-agree, Linked-children, Linked-join, Linked-split, Linked-holds, Holds, Loose-join}
 use Rattle.hnodes.proofs.Forests.{times-join, first_or-join, last_or-join, times-emptied, children-apart, some_inj}
 use Rattle.hnodes.proofs.Levels.{Here, Below, level}
 
@@ -11,39 +11,32 @@ module _ {N : Type 0} where
   pub at_row-other : (k : ℕ) (f : Row N → Row N) (look : Look N) (b : ℕ) → b ≢ k → at_row k f look b ≡ look b
   at_row-other k f look b h = rw (ne_eqb b k h) refl
 
-  after-other : (q : ℕ) (x y : Option ℕ) (look : Look N) (b : ℕ) → b ≢ q → (x ≡ Some b → ⊥) → after_link q x y look b ≡ look b
-  after-other q None y look b h i = at_row-other q (with_first y) look b h
-  after-other q (Some a) y look b h i = at_row-other a (with_next y) look b (λ j. i (ap (λ m. Some m) (sym j)))
+  link-other : (q : ℕ) (x : Option ℕ) (f g : Row N → Row N) (look : Look N) (b : ℕ) → b ≢ q → (x ≡ Some b → ⊥) → at_link q x f g look b ≡ look b
+  link-other q None f g look b h i = at_row-other q f look b h
+  link-other q (Some a) f g look b h i = at_row-other a g look b (λ j. i (ap (λ m. Some m) (sym j)))
 
-  before-other : (q : ℕ) (y x : Option ℕ) (look : Look N) (b : ℕ) → b ≢ q → (y ≡ Some b → ⊥) → before_link q y x look b ≡ look b
-  before-other q None x look b h i = at_row-other q (with_last x) look b h
-  before-other q (Some a) x look b h i = at_row-other a (with_previous x) look b (λ j. i (ap (λ m. Some m) (sym j)))
-
-  after-there : (q b : ℕ) (x y : Option ℕ) (look : Look N) → x ≡ Some b → after_link q x y look b ≡ option_map (with_next y) (look b)
-  after-there q b x y look e = rw e (at_row-there b (with_next y) look)
-
-  before-there : (q b : ℕ) (y x : Option ℕ) (look : Look N) → y ≡ Some b → before_link q y x look b ≡ option_map (with_previous x) (look b)
-  before-there q b y x look e = rw e (at_row-there b (with_previous x) look)
+  link-there : (q : ℕ) (x : Option ℕ) (f g : Row N → Row N) (look : Look N) (b : ℕ) → x ≡ Some b → at_link q x f g look b ≡ option_map g (look b)
+  link-there q x f g look b e = rw e (at_row-there b g look)
 
   pub spliced-other : (q : ℕ) (a c x y : Option ℕ) (look : Look N) (b : ℕ) → b ≢ q → (a ≡ Some b → ⊥) → (c ≡ Some b → ⊥) → spliced q a c x y look b ≡ look b
-  spliced-other q a c x y look b h i j = before-other q c x (after_link q a y look) b h j ∙ after-other q a y look b h i
+  spliced-other q a c x y look b h i j = link-other q c (with_last x) (with_previous x) (after_link q a y look) b h j ∙ link-other q a (with_first y) (with_next y) look b h i
 
   spliced-end : (q : ℕ) (a c x y : Option ℕ) (look : Look N) (b : ℕ) → b ≢ q → a ≡ Some b → (c ≡ Some b → ⊥) → spliced q a c x y look b ≡ option_map (with_next y) (look b)
-  spliced-end q a c x y look b h i j = before-other q c x (after_link q a y look) b h j ∙ after-there q b a y look i
+  spliced-end q a c x y look b h i j = link-other q c (with_last x) (with_previous x) (after_link q a y look) b h j ∙ link-there q a (with_first y) (with_next y) look b i
 
   spliced-begin : (q : ℕ) (a c x y : Option ℕ) (look : Look N) (b : ℕ) → b ≢ q → (a ≡ Some b → ⊥) → c ≡ Some b → spliced q a c x y look b ≡ option_map (with_previous x) (look b)
-  spliced-begin q a c x y look b h i j = before-there q b c x (after_link q a y look) j ∙ ap (option_map (with_previous x)) (after-other q a y look b h i)
+  spliced-begin q a c x y look b h i j = link-there q c (with_last x) (with_previous x) (after_link q a y look) b j ∙ ap (option_map (with_previous x)) (link-other q a (with_first y) (with_next y) look b h i)
 
   -- both runs have another neighbour at their open ends
   pub spliced-runs : (look new : Look N) (q : ℕ) (L R : Forest N) (x y z u : Option ℕ) → ((b : ℕ) → times b L + times b R ≤ 1) → times q L + times q R ≡ 0
       → ((b : ℕ) → 0 < times b L + times b R → new b ≡ spliced q (last_or None L) (first_or R None) x y look b)
       → Linked look (Some q) None L z → Linked look (Some q) u R None → Linked new (Some q) None L y × Linked new (Some q) x R None
   spliced-runs look new q L R x y z u once apart is l r = (
-    Linked-end look new z y (Some q) None L (λ b. let o = once b in omega arith)
+    Linked-end look new z y q None L (λ b. let o = once b in omega arith)
         (λ b h i. is b (omega arith) ∙ spliced-other q (last_or None L) (first_or R None) x y look b (not_q b (omega arith)) i (λ j. let m = first-among R b j in let o = once b in omega arith))
         (λ b i. let h = last-among L b i in is b (omega arith) ∙ spliced-end q (last_or None L) (first_or R None) x y look b (not_q b (omega arith)) i (λ j. let m = first-among R b j in let o = once b in omega arith))
         l,
-    Linked-begin look new (Some q) u x None R (λ b. let o = once b in omega arith)
+    Linked-begin look new q u x None R (λ b. let o = once b in omega arith)
         (λ b h i. is b (omega arith) ∙ spliced-other q (last_or None L) (first_or R None) x y look b (not_q b (omega arith)) (λ j. let m = last-among L b j in let o = once b in omega arith) i)
         (λ b i. let h = first-among R b i in is b (omega arith) ∙ spliced-begin q (last_or None L) (first_or R None) x y look b (not_q b (omega arith)) (λ j. let m = last-among L b j in let o = once b in omega arith) i)
         r,
@@ -81,10 +74,10 @@ module _ {N : Type 0} where
 module _ {N : Type 0} where
   -- the row of a root
   pub here-row : (look : Look N) (n : ℕ) (f : Forest N) → (p : Here n f) → Loose look f → look n ≡ Some (record { what = p.what; parent = None; first = first_or p.kids None; last = last_or None p.kids; previous = None; next = None })
-  here-row look n f p s = (Loose-split look p.left (tree n p.what p.kids p.right) (subst (λ (g : Forest N). Loose look g) p.is s)).1.0.0
+  here-row look n f p s = (Linked-split look None None p.left (tree n p.what p.kids p.right) None (subst (λ (g : Forest N). Loose look g) p.is s)).1.0
 
   pub below-holds : (look : Look N) (n : ℕ) (f : Forest N) → (p : Below n f) → Loose look f → Holds look p.parent (join p.left (tree n p.what p.kids p.right))
-  below-holds look n f p s = subst (λ (g : Forest N). Holds look p.parent g) p.is (Loose-holds look p.parent f p.one s)
+  below-holds look n f p s = subst (λ (g : Forest N). Holds look p.parent g) p.is (Linked-holds look p.parent None None f None p.one s)
 
   -- the row of a child
   pub below-row : (look : Look N) (n : ℕ) (f : Forest N) → (p : Below n f) → Loose look f
@@ -100,10 +93,10 @@ module _ {N : Type 0} where
     where
       go : Here n f ⊎ Below n f → Loose new (cut n f) × Linked new None None (tree_at n f) None
       go (inl p) =
-          let both : Loose look p.left × Loose look (tree n p.what p.kids p.right) = Loose-split look p.left (tree n p.what p.kids p.right) (subst (λ (g : Forest N). Loose look g) p.is s) in
+          let both = Linked-split look None None p.left (tree n p.what p.kids p.right) None (subst (λ (g : Forest N). Loose look g) p.is s) in
           let same : (b : ℕ) → new b ≡ look b = (λ b. is b ∙ rw (here-row look n f p s) refl) in (
-            rw p.cut_is (Loose-agree look new (join p.left p.right) (λ b z. same b) (Loose-join look p.left p.right both.0 both.1.1)),
-            rw p.tree_is (Linked-agree look new None None (tree n p.what p.kids none) None (λ b z. same b) both.1.0),
+            rw p.cut_is (Linked-agree look new None None (join p.left p.right) None (λ b z. same b) (Loose-join look (Some n) (Some n) p.left p.right both.0 both.1.2)),
+            rw p.tree_is (Linked-agree look new None None (tree n p.what p.kids none) None (λ b z. same b) (both.1.0, both.1.1, tt)),
           )
       go (inr p) =
           let l : Option ℕ = last_or None p.left in
@@ -123,7 +116,7 @@ module _ {N : Type 0} where
           let runs : Linked new (Some p.parent) None p.left r × Linked new (Some p.parent) l p.right None = spliced-runs look new p.parent p.left p.right l r (Some n) (Some n) (λ b. let o = once' b in omega arith) (omega (arith, none_q)) (λ b k. other b (not_n b (omega arith))) two.0 two.1.2 in
           let parent_row : new p.parent ≡ option_map (with_ends (first_or (join p.left p.right) None) (last_or None (join p.left p.right))) (look p.parent) = other p.parent (λ j. n_q (sym j)) ∙ spliced-row look p.parent holds.row p.left p.right l r (Some n) (Some n) (omega (arith, none_q)) (omega (arith, none_q)) holds.is (holds.first ∙ first_or-join p.left (tree n p.what p.kids p.right) None) (holds.last ∙ last_or-join None p.left (tree n p.what p.kids p.right)) ∙ rw (holds.is, first_or-join p.left p.right None, last_or-join None p.left p.right) refl in
           let elsewhere : (b : ℕ) → b ≢ p.parent → 0 < times b (change_children p.parent (λ _. none) f) → new b ≡ look b = λ b k z. let no : times b p.left + (cond (eqb n b) 1 0 + (times b p.kids + times b p.right)) ≡ 0 = omega (arith, below-among n f p b, times-emptied b p.parent f p.one, once b) in apart b (omega arith) (λ j. let o : times b p.left + (1 + (times b p.kids + times b p.right)) ≡ 0 = subst (λ (v : Bool). times b p.left + (cond v 1 0 + (times b p.kids + times b p.right)) ≡ 0) (eq-eqb n b (sym j)) no in omega arith) k in (
-            rw p.cut_is (Loose-children look new p.parent (join p.left p.right) (Linked-join new (Some p.parent) None p.left p.right None runs.0 runs.1) parent_row f p.one elsewhere s),
+            rw p.cut_is (Linked-children look new p.parent (join p.left p.right) (Linked-join new (Some p.parent) None p.left p.right None runs.0 runs.1) parent_row None None f None p.one elsewhere s),
             rw p.tree_is (self ∙ ap (option_map (with_place None None None)) two.1.0, Linked-agree look new (Some n) None p.kids None (λ b z. apart b (omega (arith, once' b)) (not_n b (omega arith)) (not_q b (omega arith))) two.1.1, tt),
           )
 
@@ -136,7 +129,7 @@ module _ {N : Type 0} where
   Loose-hook look new n q w k L R f h kids_are once is s t =
       let l : Option ℕ = last_or None L in
       let r : Option ℕ = first_or R None in
-      let holds : Holds look q (join L R) = subst (λ (g : Forest N). Holds look q g) kids_are (Loose-holds look q f h s) in
+      let holds : Holds look q (join L R) = subst (λ (g : Forest N). Holds look q g) kids_are (Linked-holds look q None None f None h s) in
       let among : (b : ℕ) → times b (children_of q f) ≡ times b L + times b R = λ b. rw kids_are (times-join b L R) in
       let in_f : (b : ℕ) → times b L + times b R ≤ times b f = λ b. omega (arith, times-emptied b q f h, among b) in
       let none_q : times q L + times q R ≡ 0 = omega (arith, among q, children-apart q f h) in
@@ -153,7 +146,7 @@ module _ {N : Type 0} where
       let below : Linked new (Some q) None (join L (tree n w k R)) None = Linked-join new (Some q) None L (tree n w k R) None runs.0 (self ∙ ap (option_map (with_place (Some q) l r)) t.0, Linked-agree look new (Some n) None k None (λ b z. other b (not_n b (omega arith)) ∙ apart b (omega (arith, in_f b, once b)) (not_q b z)) t.1, runs.1) in
       let parent_row : new q ≡ option_map (with_ends (first_or (join L (tree n w k R)) None) (last_or None (join L (tree n w k R)))) (look q) = other q (λ j. n_q (sym j)) ∙ spliced-row look q holds.row L R (Some n) (Some n) r l (omega (arith, none_q)) (omega (arith, none_q)) holds.is (holds.first ∙ first_or-join L R None) (holds.last ∙ last_or-join None L R) ∙ rw (holds.is, first_or-join L (tree n w k R) None, last_or-join None L (tree n w k R)) refl in
       let elsewhere : (b : ℕ) → b ≢ q → 0 < times b (change_children q (λ _. none) f) → new b ≡ look b = λ b i z. other b (not_n b (omega (arith, times-emptied b q f h))) ∙ apart b (omega (arith, times-emptied b q f h, among b, once b)) i in
-      Loose-children look new q (join L (tree n w k R)) below parent_row f h elsewhere s
+      Linked-children look new q (join L (tree n w k R)) below parent_row None None f None h elsewhere s
 
 -- Links are to nodes that are there.
 
@@ -192,7 +185,7 @@ module _ {N : Type 0} where
   -- the first and the last child of a node
   pub ends-among : (look : Look N) (f : Forest N) (q : ℕ) → times q f ≡ 1 → Loose look f → ((k : ℕ) → first_in (look q) ≡ Some k → 0 < times k f) × ((k : ℕ) → last_in (look q) ≡ Some k → 0 < times k f)
   ends-among look f q h s =
-      let holds : Holds look q (children_of q f) = Loose-holds look q f h s in (
+      let holds : Holds look q (children_of q f) = Linked-holds look q None None f None h s in (
         (λ k e. let l = first-among (children_of q f) k (sym (ap first_in holds.is ∙ holds.first) ∙ e) in omega (arith, times-emptied k q f h)),
         (λ k e. let l = last-among (children_of q f) k (sym (ap last_in holds.is ∙ holds.last) ∙ e) in omega (arith, times-emptied k q f h)),
       )

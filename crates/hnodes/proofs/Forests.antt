@@ -1,5 +1,5 @@
 -- Laws of forests.
-use Rattle.hnodes.proofs.Names.{◌≡◌, ℕ, ◌+◌, eqb, List, ◌∷◌, ◌++◌, Option, Some, refl, ap, arith, Forest, none, tree, roots, size, times, join, tree_at, cut, children_of, change_children, first_or, last_or, None, option_map, spot_below, spot_of, either_of, Look, Linked, Loose, row_at, ◌∙◌, nat_tests, not, ◌≤◌}
+use Rattle.hnodes.proofs.Names.{◌≡◌, ℕ, ◌+◌, eqb, List, ◌∷◌, ◌++◌, Option, Some, refl, ap, arith, Forest, none, tree, roots, size, times, join, tree_at, cut, children_of, change_children, first_or, last_or, None, option_map, spot_below, spot_of, either_of, Look, Linked, row_at, ◌∙◌, nat_tests, not, ◌≤◌}
 use Rattle.std.specs.List.{filter}
 
 pub some_inj : {A : Type 0} {a b : A} → Some a ≡ Some b → a ≡ b
@@ -113,17 +113,17 @@ module _ {N : Type 0} where
   spot_below-absent n p x none h = refl
   spot_below-absent n p x (tree b w kids rest) h = grind (arith, spot_below-absent n (Some b) None kids, spot_below-absent n p (Some b) rest)
 
-  pub Linked-spot : (look : Look N) (n : ℕ) (p x : Option ℕ) (f : Forest N) → times n f ≡ 1 → Linked look p x f None → look n ≡ option_map row_at (spot_below n p x f)
-  Linked-spot look n p x none h s = absurd (omega arith)
-  Linked-spot look n p x (tree b w kids rest) h s = grind (arith, Linked-spot look n (Some b) None kids, Linked-spot look n p (Some b) rest, spot_below-absent, nat_tests)
+  pub Linked-spot : (look : Look N) (n q : ℕ) (x : Option ℕ) (f : Forest N) → times n f ≡ 1 → Linked look (Some q) x f None → look n ≡ option_map row_at (spot_below n (Some q) x f)
+  Linked-spot look n q x none h s = absurd (omega arith)
+  Linked-spot look n q x (tree b w kids rest) h s = grind (arith, Linked-spot look n b None kids, Linked-spot look n q (Some b) rest, spot_below-absent, nat_tests)
 
   pub spot_of-absent : (n : ℕ) (f : Forest N) → times n f ≡ 0 → spot_of n f ≡ None
   spot_of-absent n none h = refl
   spot_of-absent n (tree b w kids rest) h = rw (spot_below-absent n None None (tree b w kids none) (omega arith), spot_of-absent n rest (omega arith)) refl
 
-  pub Loose-spot : (look : Look N) (n : ℕ) (f : Forest N) → times n f ≡ 1 → Loose look f → look n ≡ option_map row_at (spot_of n f)
-  Loose-spot look n none h s = absurd (omega arith)
-  Loose-spot look n (tree b w kids rest) h s = grind (arith, Loose-spot look n rest, Linked-spot look n None None (tree b w kids none), spot_of-absent, spot_below-absent, either-none)
+  pub Loose-spot : (look : Look N) (x : Option ℕ) (n : ℕ) (f : Forest N) → times n f ≡ 1 → Linked look None x f None → look n ≡ option_map row_at (spot_of n f)
+  Loose-spot look x n none h s = absurd (omega arith)
+  Loose-spot look x n (tree b w kids rest) h s = grind (arith, Loose-spot look (Some b) n rest, Linked-spot look n b None kids, nat_tests, spot_of-absent, spot_below-absent, either-none)
 
 -- in forests one after another
 either-assoc : {A : Type 0} (x y z : Option A) → either_of x (either_of y z) ≡ either_of (either_of x y) z

@@ -2,7 +2,7 @@
 use Rattle.hnodes.proofs.Names.{◌≡◌, ◌≢◌, ℕ, ◌+◌, ◌<◌, ◌≤◌, Option, Some, None, refl, sym, ◌∙◌, ap, subst, arith, ◌⊎◌, inl, inr, eq-eqb, What, Forest, none, tree, size, times, join, tree_at, cut, change_children, children_of, IsOutside, first_or, last_or, graft_last, graft_before, Row, Look, Linked, Loose, RowsStandIn, standing, hooked, detached, last_in, parent_in, previous_in, next_in}
 use Rattle.hnodes.proofs.Forests.{some_inj, without, join-none, times-join, size-join, times-cut, size-cut, roots-cut, roots-change_children, times-changed, size-changed, change-const}
 use Rattle.hnodes.proofs.Levels.{level, Here, Below}
-use Rattle.hnodes.proofs.Linked.{Holds, Loose-holds}
+use Rattle.hnodes.proofs.Linked.{Holds, Linked-holds}
 use Rattle.hnodes.proofs.Cuts.{here-row, below-row, Loose-cut, Loose-hook, one-of, once-of, there, links-among, ends-among}
 use Rattle.hnodes.proofs.Roots.{keeps-leave, loose-moved, standing-moved}
 
@@ -73,7 +73,7 @@ module _ {N : Type 0} where
 
   pub StandsIn-append : (count : ℕ) (look mid new : Look N) (f : Forest N) (n q : ℕ) → Cut count look mid f n q → ((b : ℕ) → new b ≡ hooked n q (last_in (mid q)) None mid b) → RowsStandIn count new (graft_last n q f)
   StandsIn-append count look mid new f n q c is =
-      let holds : Holds mid q (children_of q (cut n f)) = Loose-holds mid q (cut n f) c.other (cut-stands count look mid f n q c).0 in
+      let holds : Holds mid q (children_of q (cut n f)) = Linked-holds mid q None None (cut n f) None c.other (cut-stands count look mid f n q c).0 in
       let last : last_in (mid q) ≡ last_or None (children_of q (cut n f)) = ap last_in holds.is ∙ holds.last in
       let g = StandsIn-graft count look mid new f (children_of q (cut n f)) none n q c (sym (join-none (children_of q (cut n f)))) (λ b. is b ∙ ap (λ x. hooked n q x None mid b) last) in
       rw (change-const q (λ kids. join kids (tree_at n f)) (cut n f) c.other)

@@ -2,7 +2,7 @@
 use Rattle.hnodes.proofs.Names.{◌≡◌, ℕ, suc, ◌+◌, ◌<◌, eqb, ltb, cond, List, [], ◌∷◌, ◌++◌, Some, None, length, refl, ◌∙◌, ap, subst, arith, What, document, Forest, join, tree, none, make, Look, RowsStandIn, standing, whole, row_alone, is_loose, row_of, look_in, nodes_in, AreTree, IsKept, Node, Store}
 use Rattle.std.proofs.lemmas.List.{length_push}
 use Rattle.hnodes.proofs.Forests.{times-join, size-join, roots-join}
-use Rattle.hnodes.proofs.Linked.{Loose-agree, seen_loose, Loose-join}
+use Rattle.hnodes.proofs.Linked.{Linked-agree, seen_loose, Loose-join}
 use Rattle.hnodes.proofs.Roots.{loose-same}
 use Rattle.hnodes.proofs.Cuts.{test_under}
 use Rattle.hnodes.proofs.Rows.{kept-push, look_in-before, look_in-last}
@@ -13,11 +13,11 @@ one_more n count = grind arith
 module _ {N : Type 0} where
   -- what is there is seen
   pub whole-stands : (count : ℕ) (look : Look N) (f : Forest N) → RowsStandIn count look f → whole count look ≡ f
-  whole-stands count look f s = rw (← s.loose_ones) (seen_loose look f count s.rows (rw s.all (omega arith)))
+  whole-stands count look f s = rw (← s.loose_ones) (seen_loose look None f count s.rows (rw s.all (omega arith)))
 
   StandsIn-make : (count : ℕ) (look new : Look N) (w : What N) (f : Forest N) → RowsStandIn count look f → ((n : ℕ) → n < count → new n ≡ look n) → new count ≡ Some (row_alone w) → RowsStandIn (suc count) new (join f (tree count w none none))
   StandsIn-make count look new w f s same row = record {
-    rows = Loose-join new f (tree count w none none) (Loose-agree look new f (λ b h. same b (test_under b count (subst (λ (m : ℕ). 0 < m) (s.once b) h))) s.rows) ((row, tt, tt), tt);
+    rows = Loose-join new None None f (tree count w none none) (Linked-agree look new None None f None (λ b h. same b (test_under b count (subst (λ (m : ℕ). 0 < m) (s.once b) h))) s.rows) (row, tt, tt);
     loose_ones = roots-join f (tree count w none none) ∙ rw (s.loose_ones, loose-same look new count (λ b h. ap is_loose (same b h)), row) refl;
     all = size-join f (tree count w none none) ∙ omega (arith, s.all);
     once = λ n. times-join n f (tree count w none none) ∙ rw (s.once n) (omega (arith, one_more n count));

@@ -4,7 +4,7 @@ pub use Rattle.hnodes.specs.Differing.{names_differ, names_end, names_of}
 pub use Rattle.hnodes.specs.Edits.{Nodes, AreNodes, graft_last, move_all, with_text, with_attribute, AreCounted, place_node, graft, make, IsPlace, graft_before, before_place, if_text, text_before, with_char, char_into, add_chars}
 pub use Rattle.hnodes.specs.Elements.{elements_among, is_element}
 pub use Rattle.hnodes.specs.Forest.{What, document, Forest, none, tree, size, times, join, tree_at, cut, children_of, change_children, IsOutside, Attribute, change_what, put_before, roots, text, doctype, element, comment}
-pub use Rattle.hnodes.specs.Links.{parent_in, Row, Look, Linked, Loose, at_row, spliced, detached, with_place, with_ends, row_alone, whole, RowsStandIn, standing, hooked, last_in, previous_in, next_in, row_at, first_in, with_next, with_previous, is_loose, loose, with_what, with_last, after_link, before_link, with_first}
+pub use Rattle.hnodes.specs.Links.{parent_in, Row, Look, Linked, Loose, sibling, at_row, at_link, spliced, detached, with_place, with_ends, row_alone, whole, RowsStandIn, standing, hooked, last_in, previous_in, next_in, row_at, first_in, with_next, with_previous, is_loose, loose, with_what, with_last, after_link, before_link, with_first}
 pub use Rattle.hnodes.specs.Numbered.{attr_numbers}
 pub use Rattle.hnodes.specs.Passed.{order, own_text, siblings_from, forest_texts, path_above, ancestors_of, way_up, after_each, is_among}
 pub use Rattle.hnodes.specs.Rows.{look_in, row_of, contents_of, content_is, given_is, IsChanged, attribute_of, IsSeenAs, IsWithin, IsKept, AreKept, Holds, IsAmong}

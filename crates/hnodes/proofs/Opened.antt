@@ -1,5 +1,5 @@
 -- What the calls of a tree have to show: what its fields say of its value, and what they say after an edit.
-use Rattle.hnodes.proofs.Names.{◌≡◌, ℕ, zero, suc, true, ltb, cond, is_none, ◌++◌, ◌<◌, ◌≤◌, List, [], ◌∷◌, Option, Some, None, length, refl, sym, ◌∙◌, ap, subst, arith, Forest, What, document, tree, none, roots, change_what, Nodes, AreNodes, Row, Look, Loose, RowsStandIn, standing, loose, is_loose, parent_in, previous_in, next_in, with_what, at_row, look_in, row_of, content_is, get_or, set, eqb, option_map, nodes_in, inside_nodes, AreKept, AreTree, Holds, IsAmong, IsGrown, IsKept, IsTree, Node, NodeData, Store, Inside, option_and_then, times, Spot, spot_of, parent_of, row_at, first_in, last_in, false, IsSome, All, IsOutside, graft_last, graft_before, detached, hooked, contents_of, IsSeenAs, IsWithin, ◌≢◌, eq-eqb, ne_eqb, lt-leb, join, tree_at, make, IsPlace, Place, LastIn, Before, row_alone, inr, HoldsAt}
+use Rattle.hnodes.proofs.Names.{◌≡◌, ℕ, zero, suc, true, ltb, cond, is_none, ◌++◌, ◌<◌, ◌≤◌, List, [], ◌∷◌, Option, Some, None, length, refl, sym, ◌∙◌, ap, subst, arith, Forest, What, document, tree, none, roots, change_what, Nodes, AreNodes, Row, Look, Loose, RowsStandIn, standing, loose, is_loose, parent_in, previous_in, next_in, with_what, at_row, look_in, row_of, content_is, get_or, set, eqb, option_map, nodes_in, inside_nodes, AreKept, AreTree, Holds, IsAmong, IsGrown, IsKept, IsTree, Node, NodeData, Store, Inside, option_and_then, times, Spot, spot_of, parent_of, row_at, first_in, last_in, IsSome, All, IsOutside, graft_last, graft_before, detached, hooked, contents_of, IsSeenAs, IsWithin, ◌≢◌, eq-eqb, ne_eqb, lt-leb, join, tree_at, make, IsPlace, Place, LastIn, Before, row_alone, inr, HoldsAt}
 use Rattle.std.specs.Prelude.{Result, Ok, Err}
 use Rattle.std.proofs.lemmas.List.{length-set}
 use Rattle.hnodes.proofs.Stored.{grown-holds}
@@ -71,7 +71,7 @@ module _ {N : Type 0} where
   begins look none xs e s d = cc
   begins look (tree b w kids rest) xs e s d =
       let zeroth : b ≡ 0 = cons_inj e in
-      let same : w ≡ document = ap (λ (m : What N × Option ℕ). m.0) (some_inj (sym (ap standing s.0.0) ∙ ap (λ n. standing (look n)) zeroth ∙ d)) in
+      let same : w ≡ document = ap (λ (m : What N × Option ℕ). m.0) (some_inj (sym (ap standing s.0) ∙ ap (λ n. standing (look n)) zeroth ∙ d)) in
       (kids, rest, λ i. tree (zeroth i) (same i) kids rest)
     where
       cons_inj : {x y : ℕ} {us vs : List ℕ} → x ∷ us ≡ y ∷ vs → x ≡ y
@@ -152,7 +152,7 @@ module _ (t : Inside) (v : Nodes ℕ) (s : Store) (n j : ℕ) (x : Node) (c : No
 
 -- the row of a node is that of its place
 place_seen : (t : Inside) (v : Nodes ℕ) (n : ℕ) → Opened t v → n < v.made → look_in t.store t.nodes.items n ≡ option_map row_at (spot_of n v.trees)
-place_seen t v n o h = Loose-spot (look_in t.store t.nodes.items) n v.trees (one-of (length t.nodes.items) (look_in t.store t.nodes.items) v.trees n o.stands (omega (arith, o.made))) o.stands.rows
+place_seen t v n o h = Loose-spot (look_in t.store t.nodes.items) None n v.trees (one-of (length t.nodes.items) (look_in t.store t.nodes.items) v.trees n o.stands (omega (arith, o.made))) o.stands.rows
 
 -- what is asked of a row is asked of a place
 asked : {A : Type 0} (g : Row ℕ → Option A) (r : Row ℕ) (o : Option (Spot ℕ)) → Some r ≡ option_map row_at o → g r ≡ option_and_then (λ s. g (row_at s)) o
@@ -226,10 +226,8 @@ module _ {t : Inside} {v : Nodes ℕ} {mid : List Node} {n q : ℕ} {x : Node} (
       ((λ k e. rw many (w.0 k (ap parent_in g.seen ∙ e))), (λ k e. rw many (w.1 k (ap previous_in g.seen ∙ e))))
 
   -- q has its parent still
-  pub no_orphan : q < v.made → IsSome (parent_of q v.trees) → x.parent ≡ None → ⊥
-  no_orphan h up e =
-      let p : parent_of q v.trees ≡ None = sym (parent_is t v q g.was h) ∙ sym (before-parent (length t.nodes.items) (look_in t.store t.nodes.items) (look_in t.store mid) v.trees n q g.cut) ∙ ap parent_in g.seen ∙ e in
-      let no : false ≡ true = subst (λ (u : Option ℕ). IsSome u) p up in cc
+  pub has_parent : q < v.made → IsSome (parent_of q v.trees) → IsSome x.parent
+  has_parent h up = subst (λ (u : Option ℕ). IsSome u) (sym (parent_is t v q g.was h) ∙ sym (before-parent (length t.nodes.items) (look_in t.store t.nodes.items) (look_in t.store mid) v.trees n q g.cut) ∙ ap parent_in g.seen) up
 
   -- it comes to another place
   module _ (new : List Node) (some : 0 < n) where

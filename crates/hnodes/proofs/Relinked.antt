@@ -1,6 +1,6 @@
 -- A list of numbers that keeps where its groups are, where one number changes, or two neighbours change places.
-use Rattle.hnodes.proofs.IndexSteps.{in-group, group-of, group-less}
-use Rattle.hnodes.proofs.IndexNames.{ne_eqb, ◌≡◌, ◌≢◌, ℕ, zero, suc, ◌+◌, ◌-◌, ◌<◌, ◌≤◌, eqb, Bool, true, false, cond, List, length, get_or, set, ◌⊎◌, inl, inr, refl, sym, ◌∙◌, ap, subst, add-one, arith, cases_Bool, cases_lt, eq-eqb, false_from_ne_true, get_or-set_same, get_or-set_other, length-map, length-set, map-set, set-get_or, none, last_up, link_number, before_of, numbers_of, befores_of, is_in_group, Keep, IsIndexed, IsNext, Link, group_of, in_group_of, FitsAt, false≢true, set_comm, cases_eq}
+use Rattle.hnodes.proofs.IndexSteps.{in-group, not-in-group, group-of, group-less}
+use Rattle.hnodes.proofs.IndexNames.{ne_eqb, ◌≡◌, ◌≢◌, ℕ, zero, suc, ◌+◌, ◌-◌, ◌<◌, ◌≤◌, eqb, Bool, true, false, cond, List, length, get_or, set, ◌⊎◌, inl, inr, refl, sym, ◌∙◌, ap, subst, add-one, arith, cases_Bool, cases_lt, eq-eqb, false_from_ne_true, get_or-set_same, get_or-set_other, length-map, length-set, map-set, none, last_up, link_number, before_of, numbers_of, befores_of, is_in_group, Keep, IsIndexed, IsNext, Link, group_of, in_group_of, FitsAt, false≢true, set_comm, cases_eq}
 use Rattle.std.proofs.Math.ListN.{get_or-map}
 use Rattle.hnodes.proofs.LastUp.{up-within, up-found, up-least, up-past, up-alike, up-alike-from, up-sought, up-other}
 use Rattle.std.proofs.lemmas.List.{set-set}
@@ -82,10 +82,6 @@ number-at links i = get_or-map link_number links i (record { number = 0; before 
 
 pub is-some : (links : List Link) (i : ℕ) → (nth links i).number ≢ none → get_or (numbers_of links) i 0 ≢ none
 is-some links i ne e = ne (sym (number-at links i) ∙ e)
-
--- what is there already may be put there
-pub set-known : (xs : List ℕ) (i n : ℕ) → get_or xs i 0 ≡ n → xs ≡ set xs i n
-set-known xs i n e = sym (set-get_or xs i 0) ∙ ap (λ m. set xs i m) e
 
 -- a step of a walk over links
 module _ (last : List ℕ) (links : List Link) (indexed : IsIndexed last links) (g i at next : ℕ) (k : Walk (is_in_group (length last) g) (numbers_of links) i at next) where
@@ -210,9 +206,6 @@ module _ (last : List ℕ) (links : List Link) (indexed : IsIndexed last links) 
       subst (λ (g : ℕ). IsNext (is_in_group (length last) g) (numbers_of links) i n) (sym hint-group) it
 
 -- a list where one number is another one
-pub not-in : (w g h n : ℕ) → h ≢ g → group_of n w ≡ g → is_in_group w h n ≡ false
-not-in w g h n ne is = false_from_ne_true (is_in_group w h n) (λ e. ne (sym (group-of w h n e).1 ∙ is))
-
 pub differ-set : (w g i next : ℕ) (xs : List ℕ) (n : ℕ) → i < length xs → ((h : ℕ) → h ≢ g → is_in_group w h n ≡ is_in_group w h (get_or xs i 0)) → IsNext (is_in_group w g) xs i next → Differ w g i next xs (set xs i n)
 differ-set w g i next xs n within others next_is = record {
   len = length-set xs i n;
@@ -334,7 +327,7 @@ module _ (last : List ℕ) (links : List Link) (i next : ℕ) (o : Out last link
   out-differ =
       let g : ℕ = group_of (nth links i).number (length last) in
       let in_it : group_of (get_or (numbers_of links) i 0) (length last) ≡ g = ap (λ n. group_of n (length last)) (number-at links i) in
-      differ-set (length last) g i next (numbers_of links) none out-within-numbers (λ h ne. sym (not-in (length last) g h (get_or (numbers_of links) i 0) ne in_it)) out-is-next
+      differ-set (length last) g i next (numbers_of links) none out-within-numbers (λ h ne. sym (not-in-group (length last) h (get_or (numbers_of links) i 0) (λ e. ne (sym e ∙ in_it)))) out-is-next
 
   out-kept : (nth links i).before ≡ last_up (in_group_of (length last) (nth links i).number) (numbers_of links) i
   out-kept = sym (before-at links i) ∙ o.indexed.to.kept i out-within-numbers o.some ∙ ap (λ n. last_up (in_group_of (length last) n) (numbers_of links) i) (number-at links i)
@@ -371,7 +364,7 @@ module _ (last : List ℕ) (links : List Link) (i : ℕ) (x : Link) (o : In last
   pub in-differ : Differ (length last) (group_of x.number (length last)) i x.hint (numbers_of links) (set (numbers_of links) i x.number)
   in-differ =
       differ-set (length last) (group_of x.number (length last)) i x.hint (numbers_of links) x.number in-within-numbers
-      (λ h ne. not-in (length last) (group_of x.number (length last)) h x.number ne refl ∙ sym (ap (λ n. is_in_group (length last) h n) o.free)) o.fits.next
+      (λ h ne. not-in-group (length last) h x.number (λ e. ne (sym e)) ∙ sym (ap (λ n. is_in_group (length last) h n) o.free)) o.fits.next
 
   in-kept : x.before ≡ last_up (in_group_of (length last) x.number) (numbers_of links) i
   in-kept =

@@ -1,5 +1,5 @@
 -- Which nodes are loose.
-use Rattle.hnodes.proofs.Names.{◌≡◌, ◌≢◌, ℕ, zero, suc, ◌<◌, Bool, false, eqb, cond, [], ◌∷◌, ◌++◌, Option, Some, None, refl, sym, ◌∙◌, ap, arith, ne_eqb, Row, Look, standing, loose, is_loose, at_row, after_link, before_link, spliced, hooked, with_last, with_first, with_next, with_previous, not, ◌⊎◌, inl, inr}
+use Rattle.hnodes.proofs.Names.{◌≡◌, ◌≢◌, ℕ, zero, suc, ◌<◌, Bool, false, eqb, cond, [], ◌∷◌, ◌++◌, Option, Some, None, refl, sym, ◌∙◌, ap, arith, ne_eqb, Row, Look, standing, loose, is_loose, at_row, at_link, after_link, spliced, hooked, with_last, with_first, with_next, with_previous, not, ◌⊎◌, inl, inr}
 use Rattle.std.proofs.lemmas.List.Elements.{filter-append}
 use Rattle.std.proofs.lemmas.Bool.{cases_eq}
 use Rattle.hnodes.specs.Links.{leave}
@@ -18,16 +18,13 @@ module _ {N : Type 0} where
   pub keeps : (f : Row N → Row N) → ((r : Row N) → standing (Some (f r)) ≡ standing (Some r)) → (k : ℕ) (look : Look N) (b : ℕ) → standing (at_row k f look b) ≡ standing (look b)
   keeps f h k look b = grind arith
 
-  keeps-after : (q : ℕ) (x y : Option ℕ) (look : Look N) (b : ℕ) → standing (after_link q x y look b) ≡ standing (look b)
-  keeps-after q None y look b = keeps (with_first y) (λ r. refl) q look b
-  keeps-after q (Some a) y look b = keeps (with_next y) (λ r. refl) a look b
-
-  keeps-before : (q : ℕ) (y x : Option ℕ) (look : Look N) (b : ℕ) → standing (before_link q y x look b) ≡ standing (look b)
-  keeps-before q None x look b = keeps (with_last x) (λ r. refl) q look b
-  keeps-before q (Some a) x look b = keeps (with_previous x) (λ r. refl) a look b
+  keeps-link : (f g : Row N → Row N) → ((r : Row N) → standing (Some (f r)) ≡ standing (Some r)) → ((r : Row N) → standing (Some (g r)) ≡ standing (Some r)) → (q : ℕ) (x : Option ℕ) (look : Look N) (b : ℕ) → standing (at_link q x f g look b) ≡ standing (look b)
+  keeps-link f g h k q None look b = keeps f h q look b
+  keeps-link f g h k q (Some a) look b = keeps g k a look b
 
   keeps-spliced : (q : ℕ) (a c x y : Option ℕ) (look : Look N) (b : ℕ) → standing (spliced q a c x y look b) ≡ standing (look b)
-  keeps-spliced q a c x y look b = keeps-before q c x (after_link q a y look) b ∙ keeps-after q a y look b
+  keeps-spliced q a c x y look b =
+      keeps-link (with_last x) (with_previous x) (λ r. refl) (λ r. refl) q c (after_link q a y look) b ∙ keeps-link (with_first y) (with_next y) (λ r. refl) (λ r. refl) q a look b
 
   -- that a node leaves and comes changes what no other node is, nor its parent
   pub keeps-leave : (n : ℕ) (p x y : Option ℕ) (look : Look N) (b : ℕ) → b ≢ n → standing (leave n p x y look b) ≡ standing (look b)

@@ -1,5 +1,5 @@
 -- Walks: over siblings, over all nodes in tree order with their texts, and over the elements among siblings.
-use Rattle.hnodes.proofs.Names.{◌≡◌, ℕ, ◌<◌, ◌∷◌, Some, None, refl, sym, ◌∙◌, ap, arith, option_and_then, ◌⊎◌, inl, inr, eq-eqb, What, Forest, none, tree, roots, times, join, children_of, Spot, spot_of, first_or, first_child_of, next_of, AreCounted, siblings_from, List, [], ◌++◌, unwrap_or, All-nil, All-cons, flat_map, All, option_map, what_of, order, own_text, forest_texts, true, false, cond, length, Option, subst, All-head, elements_among, is_element, IfSome, IsTrue, slice_get}
+use Rattle.hnodes.proofs.Names.{◌≡◌, ℕ, ◌<◌, ◌∷◌, Some, None, refl, sym, ◌∙◌, ap, arith, option_and_then, ◌⊎◌, inl, inr, eq-eqb, What, Forest, none, tree, roots, times, join, children_of, Spot, spot_of, first_or, first_child_of, next_of, AreCounted, siblings_from, List, [], ◌++◌, unwrap_or, All-nil, All-cons, flat_map, All, option_map, what_of, order, own_text, forest_texts, Bool, cond, length, Option, subst, All-head, elements_among, is_element, IfSome, IsTrue, slice_get}
 use Rattle.hnodes.specs.Passed.{following}
 use Rattle.hnodes.proofs.Forests.{times-join, join-assoc}
 use Rattle.hnodes.proofs.Levels.{level, Here, Below}
@@ -88,16 +88,13 @@ module _ {N : Type 0} where
 
 module _ {N : Type 0} (f : Forest N) where
   -- an element is first among elements, and other nodes are passed over
-  pub element-first : (n : ℕ) (ns : List ℕ) → is_element f n ≡ true → elements_among (n ∷ ns) f ≡ n ∷ elements_among ns f
-  element-first n ns e = ap (λ b. cond b (n ∷ elements_among ns f) (elements_among ns f)) e
-
-  pub element-none : (n : ℕ) (ns : List ℕ) → is_element f n ≡ false → elements_among (n ∷ ns) f ≡ elements_among ns f
-  element-none n ns e = ap (λ b. cond b (n ∷ elements_among ns f) (elements_among ns f)) e
+  pub element-or : (n : ℕ) (ns : List ℕ) {v : Bool} → is_element f n ≡ v → elements_among (n ∷ ns) f ≡ cond v (n ∷ elements_among ns f) (elements_among ns f)
+  element-or n ns e = ap (λ b. cond b (n ∷ elements_among ns f) (elements_among ns f)) e
 
   -- a node that is an element is the first element among itself and its siblings, and without a node there is none
   pub element-at_first : (made : ℕ) (o : Option ℕ) → IfSome o (λ n. (n < made) × IsTrue (is_element f n)) → o ≡ slice_get (elements_among (siblings_from o f) f) 0
   element-at_first made None h = refl
-  element-at_first made (Some n) h = ap (λ ns. slice_get ns 0) (sym (element-first n (following (spot_of n f)) h.1))
+  element-at_first made (Some n) h = ap (λ ns. slice_get ns 0) (sym (element-or n (following (spot_of n f)) h.1))
 
   roots-within : (P : ℕ → Type 0) (g : Forest N) → All P (order g) → All P (roots g)
   roots-within P none h = All-nil P

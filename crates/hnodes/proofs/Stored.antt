@@ -1,10 +1,10 @@
 -- What a run has stays what it is when more comes after it.
-use Rattle.hnodes.proofs.Names.{◌≡◌, ℕ, ◌+◌, ◌++◌, List, [], length, drop, refl, sym, ◌∙◌, ap, subst, arith, map, map-append, append_assoc, Option, Some, None, IfSome, All-head, element, text, comment, content_is, ◌∷◌, Attribute, NodeData, Adds, AreStored, AreTexts, IsKept, Holds, IsGrown, IsLonger, IsRun, IsText, Store, StoredAttr, Run, attributes_in_run, run_in, stored_attribute}
+use Rattle.hnodes.proofs.Names.{◌≡◌, ℕ, ◌+◌, ◌++◌, List, [], length, drop, refl, sym, ◌∙◌, ap, subst, arith, map, map-append, append_assoc, Option, Some, None, IfSome, All-head, element, text, comment, content_is, ◌∷◌, Attribute, NodeData, Adds, AreTexts, IsKept, Holds, IsGrown, IsLonger, IsRun, IsText, Store, StoredAttr, Run, run_in, stored_attribute}
 use Rattle.std.specs.Prelude.{IsUtf8}
 use Rattle.std.proofs.lemmas.Str.{IsUtf8-append}
 use Rattle.std.proofs.lemmas.Slice.{between_is}
 use Rattle.std.proofs.lemmas.List.Elements.{All-push, All-tail, All-weaker}
-use Rattle.std.proofs.lemmas.List.{take-append-le, take_all, drop_at, drop-append-le, length-append, length-map, append-nil}
+use Rattle.std.proofs.lemmas.List.{take-append-le, take_all, drop_at, drop-append-le, length-append, append-nil}
 use Rattle.hnodes.specs.declared.node.NodeData.TheVariants as content
 
 module _ {X : Type 0} where
@@ -54,24 +54,6 @@ adds-one attrs x a old mid new are longer is same items = record {
   same = map-append (stored_attribute new.texts) are.more (a ∷ [])
       ∙ (λ i. (ap (λ t. map (stored_attribute t) are.more) longer.1 ∙ stored-more mid.texts longer.0 are.more are.values ∙ are.same) i ++ same i ∷ []);
 }
-
--- the run of attributes that were added
-pub added-run : (o : Option Run) (attrs : List (Attribute ℕ)) (old new : Store) (a l : ℕ) → Adds attrs old new → a ≡ length old.attrs.items → l ≡ length attrs → IfSome o (λ r. r ≡ record { start = a; len = l })
-    → IfSome o (λ r. AreStored r new × (attributes_in_run r new ≡ attrs))
-added-run None attrs old new a l are at long is = tt
-added-run (Some r) attrs old new a l are at long is = (record { inside = inside; values = subst (AreTexts new.texts) (sym run) are.values }, ap (map (stored_attribute new.texts)) run ∙ are.same)
-  where
-    many : l ≡ length are.more
-    many = long ∙ ap length (sym are.same) ∙ length-map are.more (stored_attribute new.texts)
-
-    whole : r ≡ record { start = length old.attrs.items; len = length are.more }
-    whole = is ∙ (λ i. record { start = at i; len = many i })
-
-    run : run_in r new.attrs.items ≡ are.more
-    run = (λ i. run_in (whole i) (are.items i)) ∙ run-added old.attrs.items are.more
-
-    inside : IsRun r new.attrs.items
-    inside = omega (arith, ap (λ (x : Run). x.start) whole, ap (λ (x : Run). x.len) whole, ap length are.items, length-append old.attrs.items are.more)
 
 -- what the calls of a store answer
 pub longer-is : (o : Option Run) (run : Run) (a l : ℕ) (old new more : List ℕ) → IfSome o (λ r. r ≡ record { start = a; len = l }) → a ≡ run.start → l ≡ run.len + length more

@@ -1,11 +1,11 @@
 -- A node becomes something else, and is where it was.
-use Rattle.hnodes.proofs.Names.{◌≡◌, ℕ, Bool, true, false, eqb, cond, ◌∷◌, Option, Some, None, refl, sym, ◌∙◌, ap, arith, What, document, Forest, none, tree, roots, size, times, change_what, first_or, last_or, Row, Look, Linked, Loose, RowsStandIn, standing, is_loose, at_row, with_what}
-use Rattle.hnodes.proofs.Linked.{Loose-agree}
+use Rattle.hnodes.proofs.Names.{◌≡◌, ℕ, Bool, true, false, eqb, cond, ◌∷◌, Option, Some, None, refl, sym, ◌∙◌, ap, arith, What, document, Forest, none, tree, roots, size, times, change_what, first_or, last_or, Row, Look, Linked, sibling, RowsStandIn, standing, is_loose, at_row, with_what}
+use Rattle.hnodes.proofs.Linked.{Linked-agree}
 use Rattle.hnodes.proofs.Roots.{loose-same}
 
 pub StandsIn-same : {N : Type 0} (count : ℕ) (look new : Look N) (f : Forest N) → RowsStandIn count look f → ((b : ℕ) → new b ≡ look b) → RowsStandIn count new f
 StandsIn-same count look new f s same = record {
-  rows = Loose-agree look new f (λ b h. same b) s.rows;
+  rows = Linked-agree look new None None f None (λ b h. same b) s.rows;
   loose_ones = s.loose_ones ∙ sym (loose-same look new count (λ b h. ap is_loose (same b)));
   all = s.all;
   once = s.once;
@@ -41,22 +41,18 @@ module _ {N : Type 0} (n : ℕ) (g : What N → What N) where
   )
     where
       row : What N → Row N
-      row v = record { what = v; parent = p; first = first_or kids None; last = last_or None kids; previous = x; next = first_or rest y }
+      row v = record { what = v; parent = p; first = first_or kids None; last = last_or None kids; previous = sibling p x; next = sibling p (first_or rest y) }
 
       go : (v : Bool) → cond v (Some (row (g w))) (Some (row w)) ≡ Some (row (cond v (g w) w))
       go true = refl
       go false = refl
-
-  Loose-what : (look new : Look N) → ((b : ℕ) → new b ≡ at_row n (with_what g) look b) → (f : Forest N) → Loose look f → Loose new (change_what n g f)
-  Loose-what look new is none s = tt
-  Loose-what look new is (tree b w kids rest) s = (Linked-what look new is None None (tree b w kids none) None s.0, Loose-what look new is rest s.1)
 
   loose-what : (look new : Look N) → ((b : ℕ) → new b ≡ at_row n (with_what g) look b) → (b : ℕ) → is_loose (new b) ≡ is_loose (look b)
   loose-what look new is b = grind arith
 
   pub StandsIn-what : (count : ℕ) (look new : Look N) (f : Forest N) → RowsStandIn count look f → ((b : ℕ) → new b ≡ at_row n (with_what g) look b) → RowsStandIn count new (change_what n g f)
   StandsIn-what count look new f s is = record {
-    rows = Loose-what look new is f s.rows;
+    rows = Linked-what look new is None None f None s.rows;
     loose_ones = roots-what f ∙ s.loose_ones ∙ sym (loose-same look new count (λ b h. loose-what look new is b));
     all = size-what f ∙ s.all;
     once = λ m. times-what m f ∙ s.once m;

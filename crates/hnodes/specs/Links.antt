@@ -17,6 +17,11 @@ pub record Row (N : Type 0) : Type 0 where
 abbrev pub Look : Type 0 → Type 0
 Look N = ℕ → Option (Row N)
 
+-- a sibling below a parent; a root has none
+abbrev pub sibling : (parent link : Option ℕ) → Option ℕ
+sibling None link = None
+sibling (Some p) link = link
+
 module _ {N : Type 0} where
   -- the row of a node at its place
   abbrev pub row_at : Spot N → Row N
@@ -37,14 +42,20 @@ module _ {N : Type 0} where
   abbrev pub Linked : Look N → (parent before : Option ℕ) → Forest N → (after : Option ℕ) → Type 0
   Linked look p before none after = Unit {0}
   Linked look p before (tree b w kids rest) after =
-      (look b ≡ Some (record { what = w; parent = p; first = first_or kids None; last = last_or None kids; previous = before; next = first_or rest after }))
+      (look b ≡ Some (record {
+        what = w;
+        parent = p;
+        first = first_or kids None;
+        last = last_or None kids;
+        previous = sibling p before;
+        next = sibling p (first_or rest after);
+      }))
       × Linked look (Some b) None kids None
       × Linked look p (Some b) rest after
 
   -- the trees are in what is seen, each for itself
   abbrev pub Loose : Look N → Forest N → Type 0
-  Loose look none = Unit {0}
-  Loose look (tree b w kids rest) = Linked look None None (tree b w kids none) None × Loose look rest
+  Loose look f = Linked look None None f None
 
   abbrev pub what_in : Option (Row N) → What N
   what_in None = document
@@ -134,15 +145,18 @@ module _ {N : Type 0} where
 
   -- How code relinks.
 
+  -- the row of a sibling becomes one thing of it, or that of q, where there is none, another
+  abbrev pub at_link : (q : ℕ) → (sibling : Option ℕ) → (end beside : Row N → Row N) → Look N → Look N
+  at_link q None end beside look n = at_row q end look n
+  at_link q (Some a) end beside look n = at_row a beside look n
+
   -- what comes after a sibling, or first below q, is y
   abbrev pub after_link : (q : ℕ) → (before y : Option ℕ) → Look N → Look N
-  after_link q None y look n = at_row q (with_first y) look n
-  after_link q (Some a) y look n = at_row a (with_next y) look n
+  after_link q before y look n = at_link q before (with_first y) (with_next y) look n
 
   -- what comes before a sibling, or last below q, is x
   abbrev pub before_link : (q : ℕ) → (after x : Option ℕ) → Look N → Look N
-  before_link q None x look n = at_row q (with_last x) look n
-  before_link q (Some c) x look n = at_row c (with_previous x) look n
+  before_link q after x look n = at_link q after (with_last x) (with_previous x) look n
 
   -- between two neighbours below q, or before the first, or after the last: the first one is followed by y, the second one follows x
   abbrev pub spliced : (q : ℕ) → (before after : Option ℕ) → (x y : Option ℕ) → Look N → Look N

@@ -25,12 +25,9 @@ pub(crate) struct Indexed {
 
 impl Model for Indexed {
     ghost use Rattle.std.specs.Prelude.{ℕ, List};
-    ghost use Rattle.std.specs.Coded.{coded_list, coded×, coded_ℕ};
     ghost use Rattle.hnodes.specs.Forest.{Attribute};
 
     ghost Value = { List (Attribute ℕ) };
-
-    ghost coded = { coded_list (coded× coded_ℕ (coded_list coded_ℕ)) };
 
     ghost use Rattle.hnodes.specs.Numbered.{inside_attributes, AreNumbered};
 
@@ -46,7 +43,6 @@ pub fn name_number(name: NameId) -> usize
     name.index() + 2
 }
 
-/// Whether an attribute of a name is among others.
 pub(crate) fn has_name(attrs: Attrs, name: NameId) -> bool
     ensures { result ≡ list_any (λ a. nat_eq a.0 name) attrs.entry }
 {
@@ -58,7 +54,7 @@ pub(crate) fn has_name(attrs: Attrs, name: NameId) -> bool
     false
 }
 
-/// Adds the numbers of the names of attributes to those of the first of them.
+/// Adds the numbers of the names that are not in the index yet.
 fn index_more(names: &mut IndexedList, attrs: &[Attr]) -> Result<(), AllocError>
     requires { names.old ≡ attr_numbers (take (length names.old) attrs.now) }
     ensures all { OnOk result (names.new ≡ attr_numbers attrs.now) }
@@ -113,7 +109,6 @@ pub fn has_no_null_or_return(text: &str) -> bool
     text.bytes().all(|byte| byte != 0 && byte != b'\r')
 }
 
-/// Whether all values of attributes are clean.
 pub(crate) fn are_clean(attrs: Attrs) -> bool
     ensures { result ≡ are_clean attrs.entry }
 {
@@ -125,7 +120,6 @@ pub(crate) fn are_clean(attrs: Attrs) -> bool
     true
 }
 
-/// One more than the greatest number among the names of attributes; 0 without any.
 pub(crate) fn names_end(attrs: Attrs) -> usize
     ensures { result ≡ names_end attrs.entry }
 {
@@ -149,7 +143,6 @@ pub(crate) fn taken(attrs: &mut Vec<Attr>, alloc: Global) -> Result<Vec<Attr>, A
 }
 
 impl Indexed {
-    /// These attributes.
     pub(crate) fn of(attrs: Vec<Attr>, alloc: Global) -> Result<Self, AllocError>
         ensures { IfOk result (λ indexed. indexed ≡ map attribute_of attrs.items) }
     {
@@ -161,28 +154,24 @@ impl Indexed {
         })
     }
 
-    /// The attributes.
     pub(crate) fn attrs(&self) -> Attrs
         ensures { result ≡ self.now }
     {
         Attrs::listed(&self.attrs)
     }
 
-    /// Whether their names differ.
     pub(crate) fn differ(&self) -> bool
         ensures { result ≡ names_differ nat_eq self.now }
     {
         self.differ
     }
 
-    /// Takes all names into the index.
     pub(crate) fn index(&mut self) -> Result<(), AllocError>
         ensures { self.new ≡ self.old }
     {
         index_more(&mut self.names, &self.attrs)
     }
 
-    /// Whether one of the attributes is of a name.
     pub(crate) fn has(&self, name: NameId) -> bool
         ensures { result ≡ list_any (λ a. nat_eq a.0 name) self.now }
     {
@@ -197,7 +186,6 @@ impl Indexed {
         self.differ && !self.has(name)
     }
 
-    /// Adds an attribute at the end. On an error nothing changes.
     pub(crate) fn push(&mut self, attr: Attr) -> Result<(), AllocError>
         ensures ok { OnOk result (self.new ≡ self.old ++ attribute_of attr ∷ []) }
         ensures err { OnErr result (self.new ≡ self.old) }

@@ -1,12 +1,14 @@
 //! What is asked of the attributes of an element.
 
-ghost use Rattle.std.specs.Prelude.{◌≡◌, ◌<◌, nat_eq, true};
+ghost use Rattle.std.specs.Prelude.{◌≡◌, ◌<◌, IfSome, nat_eq, true};
 ghost use Rattle.std.specs.Option.{option_map_or};
 ghost use Rattle.hnodes.specs.Vocabulary.{are_clean, attributes_of, is_present, names_differ, names_end};
+ghost use Rattle.hnodes.specs.Shared.{IsFound};
 
 use crate::attributes::{are_clean, few_differ, has_name, names_end};
 use crate::attrs_view::Attrs;
 use crate::node::{NodeData, NodeId};
+use crate::shared::Found;
 use crate::tree::Tree;
 use names::NameId;
 
@@ -20,7 +22,7 @@ impl Tree {
         match content {
             NodeData::Element(_, run) => Some(store.attrs(*run)),
             NodeData::Wide(_, indexed) => Some(indexed.attrs()),
-            NodeData::Shared(_, attrs) => Some(attrs.attrs()),
+            NodeData::Shared(_, list) => Some(Attrs::listed(list.as_slice())),
             _ => None,
         }
     }
@@ -30,12 +32,12 @@ impl Tree {
         requires { node < self.now.made }
         ensures { result ≡ option_map_or (names_differ nat_eq) (attributes_of node self.now.trees) true }
     {
-        let (content, store) = self.content(node);
-        match content {
-            NodeData::Element(_, run) => few_differ(store.attrs(*run)),
-            NodeData::Wide(_, indexed) => indexed.differ(),
-            NodeData::Shared(_, attrs) => attrs.differ(),
-            _ => true,
+        if let NodeData::Wide(_, indexed) = self.content(node).0 {
+            return indexed.differ();
+        }
+        match self.found(node) {
+            Some(found) => found.differ,
+            None => self.attrs(node).map_or(true, |attrs| few_differ(attrs)),
         }
     }
 
@@ -44,12 +46,9 @@ impl Tree {
         requires { node < self.now.made }
         ensures { result ≡ option_map_or are_clean (attributes_of node self.now.trees) true }
     {
-        let (content, store) = self.content(node);
-        match content {
-            NodeData::Element(_, run) => are_clean(store.attrs(*run)),
-            NodeData::Wide(_, indexed) => are_clean(indexed.attrs()),
-            NodeData::Shared(_, attrs) => attrs.clean(),
-            _ => true,
+        match self.found(node) {
+            Some(found) => found.clean,
+            None => self.attrs(node).map_or(true, |attrs| are_clean(attrs)),
         }
     }
 
@@ -59,26 +58,30 @@ impl Tree {
         requires { node < self.now.made }
         ensures { result ≡ option_map_or names_end (attributes_of node self.now.trees) 0 }
     {
-        let (content, store) = self.content(node);
-        match content {
-            NodeData::Element(_, run) => names_end(store.attrs(*run)),
-            NodeData::Wide(_, indexed) => names_end(indexed.attrs()),
-            NodeData::Shared(_, attrs) => attrs.names_end(),
-            _ => 0,
+        match self.found(node) {
+            Some(found) => found.names_end,
+            None => self.attrs(node).map_or(0, |attrs| names_end(attrs)),
         }
     }
 
-    /// Whether an element has an attribute of a name.
     pub(crate) fn has_attr(&self, node: NodeId, name: NameId) -> bool
         requires { node < self.now.made }
         ensures { result ≡ is_present nat_eq name (attributes_of node self.now.trees) }
     {
-        let (content, store) = self.content(node);
-        match content {
-            NodeData::Element(_, run) => has_name(store.attrs(*run), name),
+        match self.content(node).0 {
             NodeData::Wide(_, indexed) => indexed.has(name),
-            NodeData::Shared(_, attrs) => has_name(attrs.attrs(), name),
-            _ => false,
+            _ => self.attrs(node).is_some_and(|attrs| has_name(attrs, name)),
+        }
+    }
+
+    /// What was found of an element's attributes, if they are shared and were looked at.
+    fn found(&self, node: NodeId) -> Option<&Found>
+        requires { node < self.now.made }
+        ensures { IfSome result (λ found. IsFound found.now (attributes_of node self.now.trees)) }
+    {
+        match self.content(node).0 {
+            NodeData::Shared(_, list) => list.found(),
+            _ => None,
         }
     }
 }

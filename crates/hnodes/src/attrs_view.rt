@@ -37,25 +37,21 @@ impl<'a> Model for Attrs<'a> {
 }
 
 impl<'a> Attrs<'a> {
-    /// Those that lie in a store.
     #[inline(always)]
     pub(crate) fn stored(attrs: &'a [StoredAttr], texts: &'a Texts) -> Self
         requires { AreTexts texts.now attrs.now }
         ensures { result ≡ map (stored_attribute texts.now) attrs.now }
     {
-        Attrs {
-            lent: Lent::Stored(attrs, texts),
-        }
+        let lent = Lent::Stored(attrs, texts);
+        Attrs { lent }
     }
 
-    /// Those of a list.
     #[inline(always)]
     pub(crate) fn listed(attrs: &'a [Attr]) -> Self
         ensures { result ≡ map attribute_of attrs.now }
     {
-        Attrs {
-            lent: Lent::Listed(attrs),
-        }
+        let lent = Lent::Listed(attrs);
+        Attrs { lent }
     }
 
     /// No attributes.

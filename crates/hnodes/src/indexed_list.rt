@@ -34,12 +34,9 @@ pub struct IndexedList {
 
 impl Model for IndexedList {
     ghost use Rattle.std.specs.Prelude.{ℕ, List};
-    ghost use Rattle.std.specs.Coded.{coded_list, coded_ℕ};
     ghost use Rattle.hnodes.specs.IndexLinks.{AreIndexed, numbers_of};
 
     ghost Value = { List ℕ };
-
-    ghost coded = { coded_list coded_ℕ };
 
     ghost view = { λ c. numbers_of c.links.items };
 

@@ -6,7 +6,6 @@ ghost use Rattle.hnodes.specs.Vocabulary.{after_link, before_link, detached, hoo
 
 use crate::node::{Node, NodeId, NodeLink};
 
-/// Sets the parent of a node, and its two siblings.
 fn set_place(
     nodes: &mut Vec<Node>,
     at: NodeId,
@@ -23,7 +22,6 @@ fn set_place(
     node.next = next;
 }
 
-/// Sets what comes after a sibling, or first below a parent.
 fn link_after(nodes: &mut Vec<Node>, parent: NodeId, before: NodeLink, to: NodeLink)
     requires parent_in { parent < length nodes.old.items }
     requires before_in { IsWithin (length nodes.old.items) before }
@@ -35,7 +33,6 @@ fn link_after(nodes: &mut Vec<Node>, parent: NodeId, before: NodeLink, to: NodeL
     }
 }
 
-/// Sets what comes before a sibling, or last below a parent.
 fn link_before(nodes: &mut Vec<Node>, parent: NodeId, after: NodeLink, to: NodeLink)
     requires parent_in { parent < length nodes.old.items }
     requires after_in { IsWithin (length nodes.old.items) after }

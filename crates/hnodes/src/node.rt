@@ -1,10 +1,10 @@
 //! Nodes and their numbers.
 
-ghost use Rattle.std.specs.Prelude.{◌≡◌, Some, None, OnOk, OnErr, IfOk, IfSome, ◌++◌, ◌∷◌, [], ◌<◌, map};
-ghost use Rattle.hnodes.specs.Vocabulary.{attribute_of, attributes_in_run, content_is, element, given_is, text, with_attribute, with_text};
-ghost use Rattle.hnodes.specs.Vocabulary.{AreStored, Holds, IsGrown, IsKept, Store};
+ghost use Rattle.std.specs.Prelude.{◌≡◌, Some, None, OnOk, OnErr, IfOk, ◌++◌, ◌∷◌, [], ◌<◌, map};
+ghost use Rattle.hnodes.specs.Vocabulary.{attribute_of, content_is, element, given_is, text, with_attribute, with_text};
+ghost use Rattle.hnodes.specs.Vocabulary.{Holds, IsGrown, IsKept, Store};
 
-use crate::attributes::{FEW_ATTRIBUTES, Indexed, taken};
+use crate::attributes::{Indexed, taken};
 use crate::attrs_view::Attrs;
 use crate::shared::{Attributes, Listed};
 use crate::store::{Run, Store};
@@ -107,33 +107,25 @@ impl Model for NodeLink {
 }
 
 impl NodeLink {
-    /// No link.
     pub(crate) fn none() -> Self
         ensures { result ≡ None }
     {
         NodeLink { raw: 0 }
     }
 
-    /// A link to a node.
     pub(crate) fn to(node: NodeId) -> Self
         requires { node < u32.MAX }
         ensures { result ≡ Some node }
     {
-        NodeLink {
-            raw: node.number + 1,
-        }
+        let raw = node.number + 1;
+        NodeLink { raw }
     }
 
-    /// The node.
     pub(crate) fn get(self) -> Option<NodeId>
         ensures { result ≡ self }
     {
-        if self.raw == 0 {
-            return None;
-        }
-        Some(NodeId {
-            number: self.raw - 1,
-        })
+        let number = self.raw.checked_sub(1)?;
+        Some(NodeId { number })
     }
 }
 
@@ -151,7 +143,6 @@ pub(crate) struct Node {
 const _: () = prove!(std::mem::size_of::<Node>() == 40);
 
 impl Node {
-    /// A loose node without children.
     pub(crate) fn loose(content: NodeData) -> Self
         ensures { result ≡ record { content = content; parent = None; first = None; last = None; previous = None; next = None } }
     {
@@ -178,7 +169,6 @@ pub(crate) enum Given<'a> {
     Text(&'a str),
 }
 
-/// What a node holds that is given this.
 #[inline(always)]
 pub(crate) fn content(given: Given, store: &mut Store) -> Result<NodeData, AllocError>
     ensures content { IfOk result (λ c. Holds store.new c (given_is given.entry)) }
@@ -188,7 +178,7 @@ pub(crate) fn content(given: Given, store: &mut Store) -> Result<NodeData, Alloc
         Given::Doctype(texts) => Ok(NodeData::Doctype(Box::new(store.alloc, texts)?)),
         Given::Element(name, attrs) => element(name, attrs, store),
         Given::Sharing(name, attrs) => Ok(sharing(name, attrs)),
-        Given::Copied(name, attrs) => match stored(attrs.as_slice(), store)? {
+        Given::Copied(name, attrs) => match store.add_attrs(attrs.as_slice())? {
             Some(run) => Ok(NodeData::Element(name, run)),
             None => Ok(sharing(name, attrs.share()?)),
         },
@@ -212,23 +202,11 @@ fn element(name: NameId, attrs: &mut Vec<Attr>, store: &mut Store) -> Result<Nod
     if attrs.is_empty() {
         return Ok(NodeData::Element(name, Run::empty()));
     }
-    if let Some(run) = stored(attrs, store)? {
+    if let Some(run) = store.add_attrs(attrs)? {
         attrs.clear();
         return Ok(NodeData::Element(name, run));
     }
     wide(name, taken(attrs, store.alloc)?, store.alloc)
-}
-
-/// The run of attributes that are added to the store, if they are few and it has room for them.
-#[inline(always)]
-fn stored(attrs: &[Attr], store: &mut Store) -> Result<Option<Run>, AllocError>
-    ensures run { IfOk result (λ run. IfSome run (λ r. AreStored r store.new × (attributes_in_run r store.new ≡ map attribute_of attrs.now))) }
-    ensures grown { IsGrown store.old store.new }
-{
-    if attrs.len() > FEW_ATTRIBUTES {
-        return Ok(None);
-    }
-    store.add_attrs(attrs)
 }
 
 /// An element with an index of its attributes.
@@ -240,18 +218,16 @@ fn wide(name: NameId, attrs: Vec<Attr>, alloc: Global) -> Result<NodeData, Alloc
     Ok(NodeData::Wide(name, Box::new(alloc, indexed)?))
 }
 
-/// An element that shares its attributes.
 #[inline(always)]
 fn sharing(name: NameId, attrs: Attributes) -> NodeData
     ensures { (store : Store) → Holds store result (element name attrs) }
 {
-    match attrs.into_list() {
+    match attrs.list {
         Some(list) => NodeData::Shared(name, list),
         None => NodeData::Element(name, Run::empty()),
     }
 }
 
-/// A text of two parts.
 #[inline(never)]
 fn long_text(start: &str, more: &str, alloc: Global) -> Result<NodeData, AllocError>
     ensures { IfOk result (λ c. (store : Store) → Holds store c (text (start.now ++ more.now))) }
@@ -262,52 +238,60 @@ fn long_text(start: &str, more: &str, alloc: Global) -> Result<NodeData, AllocEr
     Ok(NodeData::Long(Box::new(alloc, long)?))
 }
 
-/// Adds a text at the end of a text. One that is not the last of the store moves into a string of its own.
-#[inline(always)]
-pub(crate) fn add_text(
-    content: &mut NodeData,
-    more: &str,
-    store: &mut Store,
-) -> Result<(), AllocError>
-    requires { IsKept store.old content.old }
-    ensures ok { OnOk result (Holds store.new content.new (with_text more.now (content_is store.old content.old))) }
-    ensures err { OnErr result (Holds store.new content.new (content_is store.old content.old)) }
-    ensures grown { IsGrown store.old store.new }
-{
-    match content {
-        NodeData::Text(run) => match store.lengthen(*run, more)? {
-            Some(longer) => *run = longer,
-            None => *content = long_text(store.texts.get(*run), more, store.alloc)?,
-        },
-        NodeData::Long(text) => text.push_str(more)?,
-        _ => {}
+impl NodeData {
+    /// Adds a text at the end of a text. One that is not the last of the store moves into a string of its own.
+    #[inline(always)]
+    pub(crate) fn add_text(&mut self, more: &str, store: &mut Store) -> Result<(), AllocError>
+        requires { IsKept store.old self.old }
+        ensures ok { OnOk result (Holds store.new self.new (with_text more.now (content_is store.old self.old))) }
+        ensures err { OnErr result (Holds store.new self.new (content_is store.old self.old)) }
+        ensures grown { IsGrown store.old store.new }
+    {
+        match self {
+            NodeData::Text(run) => match store.lengthen(*run, more)? {
+                Some(longer) => *run = longer,
+                None => *self = long_text(store.texts.get(*run), more, store.alloc)?,
+            },
+            NodeData::Long(text) => text.push_str(more)?,
+            _ => {}
+        }
+        Ok(())
     }
-    Ok(())
-}
 
-/// Adds an attribute at the end of an element's, which get a list of their own.
-pub(crate) fn add_attr(content: &mut NodeData, attr: Attr, store: &Store) -> Result<(), AllocError>
-    requires { IsKept store.now content.old }
-    ensures ok { OnOk result (Holds store.now content.new (with_attribute (attribute_of attr) (content_is store.now content.old))) }
-    ensures err { OnErr result (Holds store.now content.new (content_is store.now content.old)) }
-{
-    match content {
-        NodeData::Element(name, run) => {
-            let name = *name;
-            *content = wide(
-                name,
-                with(store.attrs(*run), attr, store.alloc)?,
-                store.alloc,
-            )?;
+    /// Adds an attribute at the end of an element's, which get a list of their own.
+    pub(crate) fn add_attr(&mut self, attr: Attr, store: &Store) -> Result<(), AllocError>
+        requires { IsKept store.now self.old }
+        ensures ok { OnOk result (Holds store.now self.new (with_attribute (attribute_of attr) (content_is store.now self.old))) }
+        ensures err { OnErr result (Holds store.now self.new (content_is store.now self.old)) }
+    {
+        match self {
+            NodeData::Element(name, run) => {
+                let name = *name;
+                *self = wide(
+                    name,
+                    with(store.attrs(*run), attr, store.alloc)?,
+                    store.alloc,
+                )?;
+            }
+            NodeData::Wide(_, indexed) => indexed.push(attr)?,
+            NodeData::Shared(name, list) => {
+                let name = *name;
+                *self = wide(name, with(list.attrs(), attr, store.alloc)?, store.alloc)?;
+            }
+            _ => {}
         }
-        NodeData::Wide(_, indexed) => indexed.push(attr)?,
-        NodeData::Shared(name, list) => {
-            let name = *name;
-            *content = wide(name, with(list.attrs(), attr, store.alloc)?, store.alloc)?;
-        }
-        _ => {}
+        Ok(())
     }
-    Ok(())
+
+    /// Takes the names of an element's attributes into its index, if it has one.
+    pub(crate) fn index(&mut self) -> Result<(), AllocError>
+        ensures { (store : Store) → IsKept store self.old → Holds store self.new (content_is store self.old) }
+    {
+        if let NodeData::Wide(_, indexed) = self {
+            indexed.index()?;
+        }
+        Ok(())
+    }
 }
 
 /// Copies of attributes, and one more.
@@ -320,14 +304,4 @@ fn with(attrs: Attrs, attr: Attr, alloc: Global) -> Result<Vec<Attr>, AllocError
     }
     own.push(attr)?;
     Ok(own)
-}
-
-/// Takes the names of an element's attributes into its index, if it has one.
-pub(crate) fn index_content(content: &mut NodeData) -> Result<(), AllocError>
-    ensures { (store : Store) → IsKept store content.old → Holds store content.new (content_is store content.old) }
-{
-    if let NodeData::Wide(_, indexed) = content {
-        indexed.index()?;
-    }
-    Ok(())
 }

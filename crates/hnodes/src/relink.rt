@@ -7,7 +7,6 @@ ghost use Rattle.hnodes.specs.IndexLinks.{AreIndexed, FitsAt, IsNext, befores_of
 use crate::indexed_list::{IndexedList, Link, NONE, group_of, hint_at};
 
 /// What a number at an index keeps: the nearest place before it where its group is, and the next one as a hint; 0 is none.
-///
 /// It walks down the group from its last place.
 fn link_at(last: &[u32], links: &[Link], index: usize, number: u64) -> Link
     requires are_indexed { AreIndexed last.now links.now }
@@ -69,20 +68,16 @@ fn take_out(last: &mut [u32], links: &mut [Link], index: usize) -> Link
     ensures number { result.number ≡ slice_index (numbers_of links.old) index }
     ensures fit { result.number ≢ none → FitsAt (length last.new) (numbers_of links.new) index result }
 {
-    let Link { number, before, .. } = links[index];
-    if number == NONE as u64 {
-        return links[index];
+    let mut link = links[index];
+    if link.number == NONE as u64 {
+        return link;
     }
-    let hint = above(last, links, index);
+    link.hint = above(last, links, index);
     links[index].number = NONE as u64;
-    let group = group_of(number as usize, last.len());
-    keep(last, links, group, hint, before);
-    hint_at(links, before, hint);
-    Link {
-        number,
-        before,
-        hint,
-    }
+    let group = group_of(link.number as usize, last.len());
+    keep(last, links, group, link.hint, link.before);
+    hint_at(links, link.before, link.hint);
+    link
 }
 
 /// Puts a link at an index where nothing is, where it keeps the place before it, and its hint is right.
@@ -104,7 +99,6 @@ fn put_in(last: &mut [u32], links: &mut [Link], index: usize, link: Link)
     hint_at(links, link.before, place);
 }
 
-/// Whether another number is of the group of a number.
 fn is_grouped(number: u64, other: u64, width: usize) -> bool
     requires { 0 < width }
     ensures { result ≡ in_group_of width number other }

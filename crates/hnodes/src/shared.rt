@@ -1,12 +1,10 @@
 //! Attributes that are stored once, for all elements and entries that have them.
 
-ghost use Rattle.std.specs.Prelude.{◌≡◌, [], IfOk, IfSome, map, nat_eq};
-ghost use Rattle.std.specs.Option.{option_map_or};
-ghost use Rattle.std.specs.Rc.{rc_value};
+ghost use Rattle.std.specs.Prelude.{◌≡◌, IfOk, IfSome, Some, map};
 ghost use Rattle.hnodes.specs.Shared.{IsFound};
-ghost use Rattle.hnodes.specs.Vocabulary.{are_clean, attribute_of, names_differ, names_end};
+ghost use Rattle.hnodes.specs.Vocabulary.{attribute_of};
 
-use crate::attributes::{FEW_ATTRIBUTES, are_clean, differ, few_differ, names_end, taken};
+use crate::attributes::{FEW_ATTRIBUTES, are_clean, differ, names_end, taken};
 use crate::attrs_view::Attrs;
 use names::Attr;
 use std::alloc::{AllocError, Global};
@@ -16,13 +14,11 @@ use std::slice;
 
 /// What is found once of attributes.
 #[derive(Clone, Copy, Debug)]
-struct Found {
-    /// Whether their names differ.
-    differ: bool,
-    /// Whether their values are clean.
-    clean: bool,
+pub(crate) struct Found {
+    pub(crate) differ: bool,
+    pub(crate) clean: bool,
     /// One more than the greatest number among their names.
-    names_end: usize,
+    pub(crate) names_end: usize,
 }
 
 /// A value of at most this many bytes is short.
@@ -30,7 +26,7 @@ const SHORT_VALUE: usize = 64;
 
 /// What is found of attributes, unless there are only a few with short values: those are looked at in constant time.
 fn look_at(attrs: &[Attr], alloc: Global) -> Result<Option<Box<Found>>, AllocError>
-    ensures { IfOk result (λ found. IfSome found (λ f. IsFound f.value (map attribute_of attrs.now))) }
+    ensures { IfOk result (λ found. IfSome found (λ f. IsFound f.value (Some (map attribute_of attrs.now)))) }
 {
     let is_short = attrs.iter().all(|attr| attr.value().len() <= SHORT_VALUE);
     if is_short && attrs.len() <= FEW_ATTRIBUTES {
@@ -44,7 +40,6 @@ fn look_at(attrs: &[Attr], alloc: Global) -> Result<Option<Box<Found>>, AllocErr
     Ok(Some(Box::new(alloc, found)?))
 }
 
-/// Attributes, and what is found of them.
 #[derive(Debug, Drop)]
 enum Held {
     /// One with a short value.
@@ -60,12 +55,9 @@ pub(crate) struct Listed {
 
 impl Model for Listed {
     ghost use Rattle.std.specs.Prelude.{ℕ, List};
-    ghost use Rattle.std.specs.Coded.{coded_list, coded×, coded_ℕ};
     ghost use Rattle.hnodes.specs.Forest.{Attribute};
 
     ghost Value = { List (Attribute ℕ) };
-
-    ghost coded = { coded_list (coded× coded_ℕ (coded_list coded_ℕ)) };
 
     ghost use Rattle.hnodes.specs.Shared.{listed_in, IsListed};
 
@@ -75,25 +67,20 @@ impl Model for Listed {
 }
 
 impl Listed {
-    /// Attributes that are taken out of a list.
     fn take(attrs: &mut Vec<Attr>, alloc: Global) -> Result<Self, AllocError>
         ensures { IfOk result (λ listed. listed ≡ map attribute_of attrs.old.items) }
     {
         let found = look_at(attrs, alloc)?;
         if found.is_none() && attrs.len() == 1 {
             if let Some(attr) = attrs.pop() {
-                return Ok(Listed {
-                    held: Held::One(attr),
-                });
+                let held = Held::One(attr);
+                return Ok(Listed { held });
             }
         }
-        let attrs = taken(attrs, alloc)?;
-        Ok(Listed {
-            held: Held::Others(attrs, found),
-        })
+        let held = Held::Others(taken(attrs, alloc)?, found);
+        Ok(Listed { held })
     }
 
-    /// The attributes.
     pub(crate) fn as_slice(&self) -> &[Attr]
         ensures { map attribute_of result.now ≡ self.now }
     {
@@ -103,7 +90,6 @@ impl Listed {
         }
     }
 
-    /// The same, as a tree lends them.
     pub(crate) fn attrs(&self) -> Attrs
         ensures { result ≡ self.now }
     {
@@ -111,42 +97,12 @@ impl Listed {
     }
 
     /// What was found of them when they were looked at.
-    fn found(&self) -> Option<&Found>
-        ensures { IfSome result (λ found. IsFound found.now self.now) }
+    pub(crate) fn found(&self) -> Option<&Found>
+        ensures { IfSome result (λ found. IsFound found.now (Some self.now)) }
     {
         match &self.held {
             Held::One(_) => None,
             Held::Others(_, found) => found.as_deref(),
-        }
-    }
-
-    /// Whether their names differ.
-    pub(crate) fn differ(&self) -> bool
-        ensures { result ≡ names_differ nat_eq self.now }
-    {
-        match self.found() {
-            Some(found) => found.differ,
-            None => few_differ(self.attrs()),
-        }
-    }
-
-    /// Whether their values are clean.
-    pub(crate) fn clean(&self) -> bool
-        ensures { result ≡ are_clean self.now }
-    {
-        match self.found() {
-            Some(found) => found.clean,
-            None => are_clean(self.attrs()),
-        }
-    }
-
-    /// One more than the greatest number among their names.
-    pub(crate) fn names_end(&self) -> usize
-        ensures { result ≡ names_end self.now }
-    {
-        match self.found() {
-            Some(found) => found.names_end,
-            None => names_end(self.attrs()),
         }
     }
 }
@@ -154,17 +110,14 @@ impl Listed {
 /// A list of attributes that is stored once, however many share it. An empty one takes no memory of its own.
 #[derive(Debug, Drop)]
 pub struct Attributes {
-    list: Option<Rc<Listed>>,
+    pub(crate) list: Option<Rc<Listed>>,
 }
 
 impl Model for Attributes {
     ghost use Rattle.std.specs.Prelude.{ℕ, List};
-    ghost use Rattle.std.specs.Coded.{coded_list, coded×, coded_ℕ};
     ghost use Rattle.hnodes.specs.Forest.{Attribute};
 
     ghost Value = { List (Attribute ℕ) };
-
-    ghost coded = { coded_list (coded× coded_ℕ (coded_list coded_ℕ)) };
 
     ghost use Rattle.hnodes.specs.Shared.{shared_in};
 
@@ -210,12 +163,5 @@ impl Attributes {
             Some(list) => list.as_slice(),
             None => &[],
         }
-    }
-
-    /// The list itself; none of no attributes.
-    pub(crate) fn into_list(self) -> Option<Rc<Listed>>
-        ensures { option_map_or (λ list. rc_value list) result [] ≡ self }
-    {
-        self.list
     }
 }

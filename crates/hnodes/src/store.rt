@@ -3,6 +3,7 @@
 ghost use Rattle.std.specs.Prelude.{◌≡◌, ◌≤◌, ◌+◌, ◌++◌, length, map, take, IfOk, IfSome, IsTrue, OnErr, OnOk};
 ghost use Rattle.hnodes.specs.Vocabulary.{attribute_of, attributes_in_run, run_in, Adds, AreStored, IsGrown, IsLonger, IsText};
 
+use crate::attributes::FEW_ATTRIBUTES;
 use crate::attrs_view::Attrs;
 use names::{Attr, NameId};
 use std::alloc::{AllocError, Global};
@@ -16,7 +17,6 @@ pub(crate) struct Run {
 }
 
 impl Run {
-    /// A run of nothing.
     pub(crate) fn empty() -> Run
         ensures { result ≡ record { start = 0; len = 0 } }
     {
@@ -28,16 +28,12 @@ impl Run {
     fn of(start: usize, len: usize) -> Option<Run>
         ensures { IfSome result (λ run. run ≡ record { start = start; len = len }) }
     {
-        if start > u32::MAX as usize || len > u32::MAX as usize {
-            return None;
-        }
         Some(Run {
-            start: start as u32,
-            len: len as u32,
+            start: u32::try_from(start).ok()?,
+            len: u32::try_from(len).ok()?,
         })
     }
 
-    /// Where it ends.
     #[inline(always)]
     fn end(self) -> usize
         ensures { result ≡ self.start + self.len }
@@ -46,7 +42,6 @@ impl Run {
     }
 }
 
-/// An attribute whose value is in a store.
 #[derive(Clone, Copy)]
 pub(crate) struct StoredAttr {
     pub(crate) name: NameId,
@@ -76,7 +71,6 @@ impl Model for Texts {
 }
 
 impl Texts {
-    /// How many bytes there are.
     #[inline(always)]
     fn len(&self) -> usize
         ensures { result ≡ length self.now }
@@ -84,7 +78,6 @@ impl Texts {
         self.count
     }
 
-    /// The text of a run.
     #[inline(always)]
     pub(crate) fn get(&self, run: Run) -> &str
         requires { IsText run self.now }
@@ -106,7 +99,6 @@ impl Texts {
         Ok(run)
     }
 
-    /// Adds a text at the end. On an error nothing changes.
     #[inline(always)]
     fn push(&mut self, text: &str) -> Result<(), AllocError>
         ensures ok { OnOk result (self.new ≡ self.old ++ text.now) }
@@ -133,7 +125,6 @@ fn fill(filled: &mut Vec<u8>, end: usize) -> Result<(), AllocError>
     Ok(())
 }
 
-/// Fills a vector past its length.
 #[inline(never)]
 fn fill_up(filled: &mut Vec<u8>, end: usize) -> Result<(), AllocError>
     requires { length filled.old.items ≤ end }
@@ -152,7 +143,6 @@ pub(crate) struct Store {
 }
 
 impl Store {
-    /// An empty store.
     pub(crate) fn new(alloc: Global) -> Self {
         Store {
             texts: Texts {
@@ -164,7 +154,6 @@ impl Store {
         }
     }
 
-    /// The attributes of a run.
     #[inline(always)]
     pub(crate) fn attrs(&self, run: Run) -> Attrs
         requires { AreStored run self.now }
@@ -190,17 +179,17 @@ impl Store {
         Ok(true)
     }
 
-    /// Adds attributes, and gives their run, unless that has no number.
+    /// Adds attributes, if they are few, and gives their run, unless that has no number.
     #[inline(always)]
     pub(crate) fn add_attrs(&mut self, attrs: &[Attr]) -> Result<Option<Run>, AllocError>
         ensures run { IfOk result (λ run. IfSome run (λ r. AreStored r self.new × (attributes_in_run r self.new ≡ map attribute_of attrs.now))) }
         ensures grown { IsGrown self.old self.new }
     {
         let run = Run::of(self.attrs.len(), attrs.len());
-        if run.is_some() && self.push_attrs(attrs)? {
-            return Ok(run);
+        if attrs.len() > FEW_ATTRIBUTES || run.is_none() || !self.push_attrs(attrs)? {
+            return Ok(None);
         }
-        Ok(None)
+        Ok(run)
     }
 
     /// Adds a text at the end of another, if that is the last one, and gives the longer run, unless that has no number.

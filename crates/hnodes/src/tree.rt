@@ -11,15 +11,15 @@ ghost use Rattle.hnodes.specs.Vocabulary.{previous_of, text, text_before, text_o
 ghost use Rattle.hnodes.specs.Vocabulary.{Memory, Place, TooManyNodes};
 
 use crate::links::{detach, hook};
-use crate::node::{
-    self, DocumentType, Given, Node, NodeData, NodeId, NodeKind, NodeLink, Place, add_attr,
-    add_text, index_content,
-};
+use crate::node::{self, DocumentType, Given, Node, NodeData, NodeId, NodeKind, NodeLink, Place};
 use crate::shared::Attributes;
 use crate::store::Store;
 use names::{Attr, NameId, Refusal};
 use std::alloc::{AllocError, Global};
 use std::marker::Model;
+
+/// A node that was made.
+type Made = Result<NodeId, Refusal>;
 
 /// The tree of a document, and the loose nodes: those that were made and are not in it yet. Each node takes 40 bytes, and what it
 /// holds of the store: its text, or its attributes. Making a node and moving one take amortized constant time. No call recurses, nor
@@ -107,13 +107,11 @@ impl Tree {
         ensures number { result ≡ (if ltb index self.now.made then Some index else None) }
         ensures within { IfSome result (λ n. n < self.now.made) }
     {
-        if index < self.made() as usize {
-            Some(NodeId {
-                number: index as u32,
-            })
-        } else {
-            None
+        if index >= self.made() as usize {
+            return None;
         }
+        let number = index as u32;
+        Some(NodeId { number })
     }
 
     /// How many nodes were made, the document among them.
@@ -129,12 +127,7 @@ impl Tree {
     /// Makes an element, loose. The error is `TooManyNodes` at the limit, and `Memory` if memory runs out; either leaves the tree
     /// unchanged. The same holds of all calls that make a node.
     #[inline(always)]
-    pub fn create_element(
-        &mut self,
-        name: NameId,
-        mut attrs: Vec<Attr>,
-        at: u64,
-    ) -> Result<NodeId, Refusal>
+    pub fn create_element(&mut self, name: NameId, mut attrs: Vec<Attr>, at: u64) -> Made
         ensures { Makes (element name (map attribute_of attrs.items)) at self.old self.new result }
     {
         self.create_element_from(name, &mut attrs, at)
@@ -142,12 +135,7 @@ impl Tree {
 
     /// Makes an element, loose, of attributes that leave their list, which keeps its memory for others.
     #[inline(always)]
-    pub fn create_element_from(
-        &mut self,
-        name: NameId,
-        attrs: &mut Vec<Attr>,
-        at: u64,
-    ) -> Result<NodeId, Refusal>
+    pub fn create_element_from(&mut self, name: NameId, attrs: &mut Vec<Attr>, at: u64) -> Made
         ensures { Makes (element name (map attribute_of attrs.old.items)) at self.old self.new result }
     {
         self.make(Given::Element(name, attrs), at)
@@ -155,12 +143,7 @@ impl Tree {
 
     /// Makes an element that shares its attributes, loose.
     #[inline(always)]
-    pub fn create_sharing(
-        &mut self,
-        name: NameId,
-        attrs: Attributes,
-        at: u64,
-    ) -> Result<NodeId, Refusal>
+    pub fn create_sharing(&mut self, name: NameId, attrs: Attributes, at: u64) -> Made
         ensures { Makes (element name attrs) at self.old self.new result }
     {
         self.make(Given::Sharing(name, attrs), at)
@@ -168,34 +151,28 @@ impl Tree {
 
     /// Makes an element of attributes that others share, loose. A few are copied.
     #[inline(always)]
-    pub fn create_copying(
-        &mut self,
-        name: NameId,
-        attrs: &Attributes,
-        at: u64,
-    ) -> Result<NodeId, Refusal>
+    pub fn create_copying(&mut self, name: NameId, attrs: &Attributes, at: u64) -> Made
         ensures { Makes (element name attrs.now) at self.old self.new result }
     {
         self.make(Given::Copied(name, attrs), at)
     }
 
     /// Makes a comment, loose.
-    pub fn create_comment(&mut self, text: String, at: u64) -> Result<NodeId, Refusal>
+    pub fn create_comment(&mut self, text: String, at: u64) -> Made
         ensures { Makes (comment (string_bytes text)) at self.old self.new result }
     {
         self.make(Given::Comment(text), at)
     }
 
     /// Makes a doctype, loose.
-    pub fn create_doctype(&mut self, texts: DocumentType, at: u64) -> Result<NodeId, Refusal>
+    pub fn create_doctype(&mut self, texts: DocumentType, at: u64) -> Made
         ensures { Makes (doctype (string_bytes texts.name) (string_bytes texts.public_id) (string_bytes texts.system_id)) at self.old self.new result }
     {
         self.make(Given::Doctype(texts), at)
     }
 
-    /// Makes a node, loose.
     #[inline(always)]
-    fn make(&mut self, given: Given, at: u64) -> Result<NodeId, Refusal>
+    fn make(&mut self, given: Given, at: u64) -> Made
         ensures { Makes (given_is given.entry) at self.old self.new result }
     {
         if self.nodes.len() >= self.limit as usize {
@@ -235,11 +212,9 @@ impl Tree {
         prove!(self.nodes.len() <= self.limit as usize);
         detach(&mut self.nodes, child);
         let node = &self.nodes[sibling.number as usize];
-        let (parent, previous) = (node.parent, node.previous);
-        if let Some(parent) = parent.get() {
-            let next = NodeLink::to(sibling);
-            hook(&mut self.nodes, child, parent, previous, next);
-        }
+        let parent = node.parent.get().unwrap();
+        let (previous, next) = (node.previous, NodeLink::to(sibling));
+        hook(&mut self.nodes, child, parent, previous, next);
     }
 
     /// Moves a node from where it is to a place.
@@ -303,7 +278,7 @@ impl Tree {
         match self.text_before(here) {
             Some(before) => {
                 let content = &mut self.nodes[before.number as usize].content;
-                add_text(content, text, &mut self.store)?;
+                content.add_text(text, &mut self.store)?;
                 Ok(())
             }
             None => {
@@ -314,7 +289,6 @@ impl Tree {
         }
     }
 
-    /// The text right before a place.
     fn text_before(&self, place: Place) -> Option<NodeId>
         requires { IsPlace place self.now }
         ensures text { result ≡ text_before place self.now.trees }
@@ -339,11 +313,8 @@ impl Tree {
         ensures memory { IfErr result (λ e. e ≡ Memory) }
         ensures err { OnErr result (self.new ≡ self.old) }
     {
-        add_attr(
-            &mut self.nodes[node.number as usize].content,
-            attr,
-            &self.store,
-        )?;
+        let content = &mut self.nodes[node.number as usize].content;
+        content.add_attr(attr, &self.store)?;
         Ok(())
     }
 
@@ -367,7 +338,7 @@ impl Tree {
         requires { node < self.old.made }
         ensures { self.new ≡ self.old }
     {
-        index_content(&mut self.nodes[node.number as usize].content)
+        self.nodes[node.number as usize].content.index()
     }
 
     /// Whether a node is another one or inside it, to be tested before a node moves. Takes as many steps as the node is deep.

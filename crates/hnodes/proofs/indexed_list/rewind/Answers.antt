@@ -1,18 +1,11 @@
-use Rattle.hnodes.proofs.IndexNames.{◌≡◌, ℕ, ◌+◌, ◌<◌, length, get_or, set, ap, sym, ◌∙◌, subst, refl, arith, get_or_default, get_or-set_same, length-set, map-set_same, link_number, Link, IndexedTo}
+use Rattle.hnodes.proofs.IndexNames.{◌≡◌, ◌+◌, ◌<◌, length, get_or, set, ap, sym, ◌∙◌, refl, arith, get_or_default, get_or-set_same, length-set, map-set_same, link_number, Link}
 use Rattle.std.proofs.lemmas.List.{take-set-le}
-use Rattle.hnodes.proofs.IndexSteps.{is_indexed-all, indexed-front, indexed_to-same, says-le, more-none, more-some}
+use Rattle.hnodes.proofs.IndexSteps.{indexed-front, indexed_to-same, says-le, more-none, more-some}
 use Rattle.hnodes.proofs.indexed_list.rewind.Goals as goal
 use Rattle.hnodes.proofs.indexed_list.rewind.Goals.{then-number-ne-NONE, else-number-ne-NONE}
 
 abbrev nothing : Link
 nothing = record { number = 0; before = 0; hint = 0 }
-
-pub loop-index-init : goal.loop-index-init
-loop-index-init c = record {
-  within = c.requires.within;
-  indexed = c.requires.indexed;
-  same = refl;
-}
 
 pub hint_at-requires : goal.hint_at-requires
 hint_at-requires c =
@@ -51,10 +44,3 @@ loop-index-preserved c =
             same = c.loop-index.invariant.same;
           })
     ]
-
-pub returns-clause-indexed : goal.returns-clause-indexed
-returns-clause-indexed c =
-    let links = c.loop-index.links in
-    let last = c.loop-index.last in
-    let end : c.loop-index.index ≡ length links = omega arith in
-    is_indexed-all last links (λ some. omega (arith, c.requires.wide (omega arith))) (subst (λ (m : ℕ). IndexedTo last links m) end c.loop-index.invariant.indexed)

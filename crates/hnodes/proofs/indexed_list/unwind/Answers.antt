@@ -1,4 +1,4 @@
-use Rattle.hnodes.proofs.IndexNames.{◌≡◌, ◌-◌, ◌<◌, length, get_or, subst, arith, get_or_default, Link, IndexedTo}
+use Rattle.hnodes.proofs.IndexNames.{◌-◌, ◌<◌, length, get_or, arith, get_or_default, Link}
 use Rattle.hnodes.proofs.IndexSteps.{less-none, less-some}
 use Rattle.hnodes.proofs.indexed_list.unwind.Goals as goal
 
@@ -31,8 +31,3 @@ loop-end-preserved c =
       above = omega arith;
       indexed = less-none c.loop-end.last links (end - 1) end x (omega arith) within (get_or_default links (end - 1) x nothing within) c.if-link-ne-NONE.false c.loop-end.invariant.indexed;
     }
-
-pub returns : goal.returns
-returns c =
-    let is : c.loop-end.end ≡ c.args.from = omega arith in
-    subst (IndexedTo c.loop-end.last c.args.links.now) is c.loop-end.invariant.indexed

@@ -6,5 +6,5 @@ returns-in-Sharing-clause-content c = let held = c.sharing.ensures c.args.store.
 
 pub returns-in_ok-share-in-None-clause-content : goal.returns-in_ok-share-in-None-clause-content
 returns-in_ok-share-in-None-clause-content c =
-    let held = c.sharing-in-None.ensures c.stored.new.store in
+    let held = c.sharing-in-None.ensures c.add_attrs.new.self in
     (held.0, held.1 ∙ ap (element c.in-Copied.name) c.in_ok-share-in-None.ensures ∙ ap given_is (sym c.in-Copied.is))

@@ -1,16 +1,6 @@
-use Rattle.hnodes.proofs.IndexNames.{◌<◌, length, sym, ◌∙◌, ap, add-one, arith, last_up, numbers_of, in_group_of, get_or}
-use Rattle.hnodes.proofs.IndexSteps.{group-less}
-use Rattle.hnodes.proofs.Relinked.{walk-before, walk-next, length-numbers, down-within, down-less, down-walk}
+use Rattle.hnodes.proofs.IndexNames.{length, sym, ◌∙◌, ap, add-one, arith, last_up, numbers_of, in_group_of}
+use Rattle.hnodes.proofs.Relinked.{walk-before, walk-next, down-within, down-less, down-walk}
 use Rattle.hnodes.proofs.relink.link_at.Goals as goal
-
-pub loop-before-init : goal.loop-before-init
-loop-before-init c =
-    let wide : 0 < length c.args.last.now = c.requires.are_indexed.indexed.wide (omega arith) in
-    record {
-      within = omega (arith, length-numbers c.args.links.now);
-      is = ap (λ g. get_or c.args.last.now g 0) c.group_of.ensures.group ∙ c.requires.are_indexed.indexed.to.says _ (group-less c.args.number (length c.args.last.now) wide);
-      found = λ some. absurd (omega arith);
-    }
 
 pub bounds-links-before : goal.bounds-links-before
 bounds-links-before c = omega (arith, down-within c.args.last.now c.args.links.now c.requires.are_indexed.indexed _ c.args.index c.loop-before.before c.loop-before.hint c.loop-before.invariant)

@@ -1,5 +1,5 @@
-use Rattle.hnodes.proofs.IndexNames.{◌+◌, length, sym, ◌∙◌, add-one, numbers_of, arith, length-set, map-set, link_number, group_of, ap, cond, eqb, set}
-use Rattle.hnodes.proofs.Relinked.{rewritten, set-known, In, group-within, in-differ, in-here, in-within, in-keeps}
+use Rattle.hnodes.proofs.IndexNames.{◌+◌, length, ◌∙◌, add-one, arith, length-set, map-set, link_number, group_of, ap, cond, eqb, set}
+use Rattle.hnodes.proofs.Relinked.{rewritten, In, group-within, in-differ, in-here, in-within, in-keeps}
 use Rattle.hnodes.proofs.relink.put_in.Goals as goal
 
 pub hint_at-requires : goal.hint_at-requires
@@ -30,6 +30,3 @@ returns-clause-are_indexed c =
 
 pub returns-clause-numbers : goal.returns-clause-numbers
 returns-clause-numbers c = c.hint_at.ensures.numbers ∙ c.keep.ensures.numbers ∙ map-set link_number c.args.links.now c.args.index c.args.link
-
-pub returns-then-link-clause-numbers : goal.returns-then-link-clause-numbers
-returns-then-link-clause-numbers c = set-known (numbers_of c.args.links.now) c.args.index c.args.link.number (c.requires.free ∙ sym c.if-link.true)

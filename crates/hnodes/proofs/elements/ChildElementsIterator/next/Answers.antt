@@ -1,5 +1,5 @@
 use Rattle.hnodes.proofs.Names.{◌<◌, ◌∷◌, ◌∙◌, ap, sym, subst, length, Option, ℕ, rules, IfSome, IsTrue, elements_among, is_element, siblings_from}
-use Rattle.hnodes.proofs.Siblings.{element-first, siblings-step}
+use Rattle.hnodes.proofs.Siblings.{element-or, siblings-step}
 use Rattle.hnodes.proofs.elements.ChildElementsIterator.next.Goals as goal
 
 pub returns-clause-steps : goal.returns-clause-steps
@@ -10,7 +10,7 @@ returns-clause-steps c =
     sym c.self.view_is ∙ ap (λ o. elements_among (siblings_from o f) f) c.in_ok-node.was
     ∙ ap (λ ns. elements_among ns f) (siblings-step c.self.inside.tree.now.made f c.next.ensures.nodes.counted c.in_ok-node.node this.0)
     ∙ ap (λ o. elements_among (c.in_ok-node.node ∷ siblings_from o f) f) (sym c.next.ensures.sibling)
-    ∙ element-first f c.in_ok-node.node (siblings_from c.next.result f) this.1 ∙ ap (λ ns. c.in_ok-node.node ∷ ns) c.element_from-self-inside.ensures.same
+    ∙ element-or f c.in_ok-node.node (siblings_from c.next.result f) this.1 ∙ ap (λ ns. c.in_ok-node.node ∷ ns) c.element_from-self-inside.ensures.same
 
 pub returns-clause-goes : goal.returns-clause-goes
 returns-clause-goes c = let shorter = ap length (returns-clause-steps c) in search rules

@@ -1,21 +1,6 @@
-use Rattle.hnodes.proofs.IndexNames.{◌≡◌, ◌<◌, List, [], ◌∷◌, ◌++◌, suc, length, get_or, set, refl, ap, sym, ◌∙◌, subst, arith, rules, with_items_is, length_push, get_or_default, map-append, link_number, numbers_of, IsIndexed, AreIndexed, Link, group_of}
+use Rattle.hnodes.proofs.IndexNames.{◌≡◌, ◌<◌, List, [], ◌∷◌, ◌++◌, suc, length, get_or, set, ap, sym, ◌∙◌, subst, arith, rules, with_items_is, length_push, get_or_default, IsIndexed, AreIndexed, Link, group_of}
 use Rattle.hnodes.proofs.IndexSteps.{indexed-push, indexed-same, last-le}
-use Rattle.hnodes.proofs.Borrowed.{borrowed, on_err}
 use Rattle.hnodes.proofs.indexed_list.IndexedList.push.Goals as goal
-
-pub make_room-requires : goal.make_room-requires
-make_room-requires c =
-    let are = borrowed c.self.inside.last.items _ _ c.deref_mut.result.now refl c.deref_mut.ensures.value c.self.invariant in
-    record { indexed = are.indexed; places = are.fits }
-
--- where there is no memory for a larger table
-pub invariant_of-self : goal.invariant_of-self
-invariant_of-self c =
-    let same = with_items_is c.self.inside.links c.make_room.new.links (c.make_room.auto.links ∙ c.deref_mut.ensures.len) in
-    borrowed c.make_room.new.last.items _ c.make_room.new.links _ refl same (record {
-      indexed = c.in_err-make_room.ensures.indexed;
-      fits = omega (arith, c.self.invariant.fits);
-    })
 
 pub hint_at-requires : goal.hint_at-requires
 hint_at-requires c =
@@ -54,35 +39,3 @@ invariant_of-self-2 c =
       indexed = same;
       fits = omega (arith, ap length passed, length_push links x);
     })
-
-pub returns : goal.returns
-returns c =
-    let links : List Link = c.make_room.new.links in
-    let x : Link = record { number = c.args.number; before = c.index-before.result.now; hint = 0 } in
-    let pushed : c.push.new.self.items ≡ links ++ x ∷ [] = c.in_ok-push.ensures.items ∙ ap (λ ys. ys ++ x ∷ []) (with_items_is c.self.inside.links links (c.make_room.auto.links ∙ c.deref_mut.ensures.len)) in
-    let whole = with_items_is c.push.new.self c.hint_at.new.links (c.hint_at.auto.links ∙ c.deref_mut-2.ensures.len) in
-    let old = c.in_ok-make_room.ensures.same ∙ ap numbers_of c.deref_mut.ensures.value ∙ c.self.view_is in
-    record {
-      ok = ap numbers_of whole ∙ c.hint_at.ensures.numbers ∙ ap numbers_of (c.deref_mut-2.ensures.value ∙ pushed) ∙ map-append link_number links (x ∷ [])
-          ∙ ap (λ ns. ns ++ c.args.number ∷ []) old;
-      err = tt;
-    }
-
-pub returns-in_err-make_room-clause-err : goal.returns-in_err-make_room-clause-err
-returns-in_err-make_room-clause-err c =
-    let same = with_items_is c.self.inside.links c.make_room.new.links (c.make_room.auto.links ∙ c.deref_mut.ensures.len) in
-    on_err c.from_residual.result (ap numbers_of same ∙ c.in_err-make_room.ensures.same ∙ ap numbers_of c.deref_mut.ensures.value ∙ c.self.view_is)
-
--- where there is none for the link
-pub invariant_of-self-in_err-push : goal.invariant_of-self-in_err-push
-invariant_of-self-in_err-push c =
-    let same = c.in_err-push.ensures.items ∙ with_items_is c.self.inside.links c.make_room.new.links (c.make_room.auto.links ∙ c.deref_mut.ensures.len) in
-    borrowed c.make_room.new.last.items _ c.make_room.new.links _ refl same (record {
-      indexed = c.in_ok-make_room.ensures.indexed;
-      fits = omega (arith, c.self.invariant.fits);
-    })
-
-pub returns-in_err-push-clause-err : goal.returns-in_err-push-clause-err
-returns-in_err-push-clause-err c =
-    let same = c.in_err-push.ensures.items ∙ with_items_is c.self.inside.links c.make_room.new.links (c.make_room.auto.links ∙ c.deref_mut.ensures.len) in
-    on_err c.from_residual-in_err-push.result (ap numbers_of same ∙ c.in_ok-make_room.ensures.same ∙ ap numbers_of c.deref_mut.ensures.value ∙ c.self.view_is)

@@ -7,10 +7,6 @@ use Rattle.hnodes.proofs.indexed_list.IndexedList.truncate.Goals as goal
 pub returns : goal.returns
 returns c = ap (map link_number) c.truncate.ensures.items ∙ sym (take-map link_number c.args.len c.self.inside.links.items) ∙ ap (take c.args.len) c.self.view_is
 
-pub unwind-requires-clause-within : goal.unwind-requires-clause-within
-unwind-requires-clause-within c =
-    omega (arith, c.requires, ap length c.deref.ensures.value, ap length c.self.view_is, length-map c.self.inside.links.items link_number)
-
 pub invariant_of-self : goal.invariant_of-self
 invariant_of-self c =
     let links = c.deref.result.now in

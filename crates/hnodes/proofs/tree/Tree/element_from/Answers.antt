@@ -1,6 +1,6 @@
 use Rattle.hnodes.proofs.Names.{◌≡◌, ◌∙◌, ap, sym, arith, false, length, elements_among, is_element, siblings_from}
 use Rattle.std.specs.Prelude.{is_some}
-use Rattle.hnodes.proofs.Siblings.{element-none, siblings-on}
+use Rattle.hnodes.proofs.Siblings.{element-or, siblings-on}
 use Rattle.hnodes.proofs.tree.Tree.element_from.Goals as goal
 
 pub loop-next-smaller : goal.loop-next-smaller
@@ -14,5 +14,5 @@ loop-next-preserved c =
     record {
       within = c.next-next.ensures.within;
       same = c.loop-next.invariant.same ∙ ap (λ ns. elements_among ns c.args.self.now.trees) step
-          ∙ element-none c.args.self.now.trees c.in-Some.node (siblings_from c.next-next.result c.args.self.now.trees) other;
+          ∙ element-or c.args.self.now.trees c.in-Some.node (siblings_from c.next-next.result c.args.self.now.trees) other;
     }

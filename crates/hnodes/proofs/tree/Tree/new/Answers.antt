@@ -10,7 +10,7 @@ invariant_of-result c =
     rw (c.in_ok-push.ensures.items, c.new-nodes.ensures.items, c.loose.ensures)
     (record {
       kept = All-cons (IsKept c.new.result) Document [] tt (All-nil (IsKept c.new.result));
-      forest = (tree 0 document none none, record { rows = ((refl, tt, tt), tt); loose_ones = refl; all = refl; once = once_alone });
+      forest = (tree 0 document none none, record { rows = (refl, tt, tt); loose_ones = refl; all = refl; once = once_alone });
       begun = refl;
       fits = omega (arith, c.requires);
     })

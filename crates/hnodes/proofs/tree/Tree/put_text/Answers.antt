@@ -1,15 +1,12 @@
 use Rattle.hnodes.proofs.Names.{with_text, refl, sym, ◌∙◌, length, arith, eqb-true, eqb-false, text}
 use Rattle.hnodes.proofs.Borrowed.{on_err}
-use Rattle.hnodes.proofs.Opened.{opened, edited, edited_view, kept_there, place-made, unwritten, written}
+use Rattle.hnodes.proofs.Opened.{opened, edited, edited_view, kept_there, unwritten, written}
 use Rattle.hnodes.proofs.Stored.{same-grown}
 use Rattle.hnodes.proofs.Runs.{put-nothing, put-joins, put-makes}
 use Rattle.hnodes.proofs.tree.Tree.put_text.Goals as goal
 
 pub returns-then-is_empty-clause-ok : goal.returns-then-is_empty-clause-ok
 returns-then-is_empty-clause-ok c = put-nothing c.args.text.now c.args.place c.args.self.now (eqb-true _ 0 (sym c.is_empty.ensures ∙ c.if-is_empty.true))
-
-pub insert-requires-clause-place : goal.insert-requires-clause-place
-insert-requires-clause-place c = rw c.in_ok-node-in-None.ensures.ok (place-made c.args.place c.args.self.now (text c.args.text.now) c.requires)
 
 pub add_text-requires : goal.add_text-requires
 add_text-requires c =

@@ -1,4 +1,4 @@
-use Rattle.hnodes.proofs.Names.{◌≡◌, ◌<◌, [], ◌++◌, string_bytes, sym, ◌∙◌, ap, unwrap_or, append_assoc, append-nil, All-head, flat_map}
+use Rattle.hnodes.proofs.Names.{◌≡◌, ◌<◌, [], ◌++◌, string_bytes, sym, ◌∙◌, ap, unwrap_or, append_assoc, flat_map}
 use Rattle.std.proofs.lemmas.List.Elements.{All-same, All-rest}
 use Rattle.hnodes.proofs.Siblings.{text_at, texts-order}
 use Rattle.hnodes.proofs.tree.Tree.text_content.Goals as goal
@@ -9,10 +9,6 @@ loop-node-init c = record {
   same = rw (c.new-all.ensures.bytes, c.into_iter-node-iterator.ensures.into_iter_gives, c.descendants-node-items.ensures.order) (sym (texts-order c.args.self.now.made c.args.self.now.trees c.descendants-node-items.ensures.nodes.counted c.args.at c.requires));
 }
 
-pub own_text-requires : goal.own_text-requires
-own_text-requires c =
-    All-head (λ n. n < c.args.self.now.made) c.in-Some.node c.next.new.self (All-same (λ n. n < c.args.self.now.made) _ _ (sym c.in-Some.ensures.steps) c.loop-node.invariant.within)
-
 pub loop-node-preserved : goal.loop-node-preserved
 loop-node-preserved c =
     let f = text_at c.args.self.now.trees in
@@ -22,7 +18,3 @@ loop-node-preserved c =
       same = ap (λ t. t ++ flat_map f c.next.new.self) c.in_ok-push_str.ensures.bytes ∙ append_assoc (string_bytes c.loop-node.all) c.own_text.result.now (flat_map f c.next.new.self)
           ∙ ap (λ t. string_bytes c.loop-node.all ++ (t ++ flat_map f c.next.new.self)) own ∙ ap (λ ns. string_bytes c.loop-node.all ++ flat_map f ns) (sym c.in-Some.ensures.steps) ∙ c.loop-node.invariant.same;
     }
-
-pub returns : goal.returns
-returns c =
-    sym (append-nil (string_bytes c.loop-node.all)) ∙ ap (λ ns. string_bytes c.loop-node.all ++ flat_map (text_at c.args.self.now.trees) ns) (sym c.in-None.ensures.steps.0) ∙ c.loop-node.invariant.same
