@@ -17,9 +17,6 @@ text_kept old new id text (more, e) h = subst (λ (x : Texts). slice_get x id �
 pub grows_not : (names : Texts) → Grows names names
 grows_not names = ([], sym (append-nil names))
 
-pub grows_same : (old new : Texts) → new ≡ old → Grows old new
-grows_same old new same = ([], same ∙ sym (append-nil old))
-
 pub grows_on : (a b c : Texts) → Grows a b → Grows b c → Grows a c
 grows_on a b c (xs, e) (ys, f) = (xs ++ ys, f ∙ ap (λ (x : Texts). x ++ ys) e ∙ append_assoc a xs ys)
 

@@ -6,13 +6,13 @@ use Rattle.names.specs.Tags.{number_of}
 use Rattle.names.proofs.Handing.{slice_get-append}
 
 -- the known names are in the order of their numbers
-number_of-tags : map number_of tags ≡ range_with_len 0 127
+number_of-tags : map number_of tags ≡ range_with_len 0 (length tags)
 number_of-tags = refl
 
 pub number_of-tag_of : (n : ℕ) → (tag_of n ≡ Other → ⊥) → number_of (tag_of n) ≡ n
 number_of-tag_of n known_name =
-    elim (cases_lt n 127) [
-      | inl less ↦ sym (get_or-map number_of tags n Other 0 less) ∙ ap (λ (x : List ℕ). get_or x n 0) number_of-tags ∙ get_or-range_with_len 0 127 n 0 less ∙ zero-add n
+    elim (cases_lt n (length tags)) [
+      | inl less ↦ sym (get_or-map number_of tags n Other 0 less) ∙ ap (λ (x : List ℕ). get_or x n 0) number_of-tags ∙ get_or-range_with_len 0 (length tags) n 0 less ∙ zero-add n
       | inr past ↦ absurd (known_name (get_or_past tags n Other past))
     ]
 

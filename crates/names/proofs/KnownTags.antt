@@ -34,7 +34,7 @@ tag_of-named names id text h at =
     (subst (λ (x : Texts). id < length x) e (slice_get_within names id text at))
     (subst (λ (x : Texts). text_of x id ≡ text) e (get_or_from_slice_get names id text [] at))
 
-neither : (b r : Bool) → (b || r) ≡ false → (b ≡ false) × (r ≡ false)
+pub neither : (b r : Bool) → (b || r) ≡ false → (b ≡ false) × (r ≡ false)
 neither true r e = absurd cc
 neither false r e = (refl, e)
 

@@ -1,19 +1,21 @@
 -- The known names as they are in every table.
-use Rattle.names.proofs.Vocabulary.{◌≡◌, ℕ, suc, ◌+◌, ◌<◌, ◌≤◌, Bool, true, false, ◌&&◌, ◌||◌, nat_lt, List, [], ◌∷◌, length, map, sym, refl, ap, ◌∙◌, arith, inl, inr, get_or, Option, Some, None, zero-add, and_parts, cases_lt, leb-true, get_or-map, get_or-range_with_len, get_or_from_slice_get, slice_get-get_or, slice_get-map, bytes_eq-Decides, bytes_eq, nat_le, option_map, slice_get, list_any, position, range_with_len, Texts, text_of, AreDistinct, known, tags, tag_text, type_name, Tag, A}
+use Rattle.names.proofs.Vocabulary.{◌≡◌, ℕ, ◌+◌, ◌<◌, ◌≤◌, Bool, true, false, ◌&&◌, nat_lt, List, [], ◌∷◌, length, map, sym, refl, ap, ◌∙◌, arith, inl, inr, get_or, Option, Some, None, zero-add, and_parts, cases_lt, leb-true, get_or-map, get_or-range_with_len, get_or_from_slice_get, slice_get-get_or, slice_get-map, bytes_eq-Decides, bytes_eq, nat_le, option_map, slice_get, list_any, position, range_with_len, text_of, AreDistinct, known, tags, tag_text, type_name, Tag, A}
 use Rattle.std.proofs.lemmas.Bool.{agree_below_at, false≢true, ltb-true}
+use Rattle.std.proofs.lemmas.List.{get_or_default}
+use Rattle.std.proofs.lemmas.List.Folds.{list_any_none}
 use Rattle.names.specs.Table.{letter_of}
 use Rattle.names.specs.declared.known.TheConstants.{FIRST}
 use Rattle.names.proofs.Handing.{slice_get-append}
 use Rattle.names.proofs.KnownTags.{different}
 
 -- each has the place at which it is alone
-places : map (λ t. position (bytes_eq t) known) known ≡ map Some (range_with_len 0 128)
+places : map (λ t. position (bytes_eq t) known) known ≡ map Some (range_with_len 0 (length known))
 places = refl
 
-pub place_of : (i : ℕ) → i < 128 → position (bytes_eq (text_of known i)) known ≡ Some i
+pub place_of : (i : ℕ) → i < length known → position (bytes_eq (text_of known i)) known ≡ Some i
 place_of i within =
     sym (get_or-map (λ t. position (bytes_eq t) known) known i [] None within) ∙ ap (λ (x : List (Option ℕ)). get_or x i None) places
-    ∙ get_or-map Some (range_with_len 0 128) i 0 None within ∙ ap Some (get_or-range_with_len 0 128 i 0 within ∙ zero-add i)
+    ∙ get_or-map Some (range_with_len 0 (length known)) i 0 None within ∙ ap Some (get_or-range_with_len 0 (length known) i 0 within ∙ zero-add i)
 
 pub known-distinct : AreDistinct known
 known-distinct i j p q same =
@@ -21,7 +23,7 @@ known-distinct i j p q same =
     cc
 
 -- a known name that is no attribute's
-pub known_tag : (i : ℕ) (t : Tag) → i < 127 → slice_get known i ≡ Some (tag_text (get_or tags i t))
+pub known_tag : (i : ℕ) (t : Tag) → i < length tags → slice_get known i ≡ Some (tag_text (get_or tags i t))
 known_tag i t within =
     slice_get-append (map tag_text tags) (type_name ∷ []) i (tag_text (get_or tags i t))
     (slice_get-map tag_text tags i ∙ ap (option_map tag_text) (slice_get-get_or tags i t within))
@@ -31,21 +33,14 @@ abbrev stands : Option ℕ → ℕ → Bool
 stands None i = false
 stands (Some letter) i = nat_le (get_or FIRST letter 0) i && nat_lt i (get_or FIRST (letter + 1) 0)
 
-stands_at : (i : ℕ) → i < 127 → stands (letter_of (text_of known i)) i ≡ true
-stands_at i within = agree_below_at (λ n. stands (letter_of (text_of known n)) n) (λ n. true) 127 i refl within
-
-none_any : (p : List ℕ → Bool) (xs : Texts) → ((i : ℕ) → i < length xs → p (text_of xs i) ≡ false) → list_any p xs ≡ false
-none_any p [] h = refl
-none_any p (x ∷ xs) h = ap (λ b. b || list_any p xs) (h 0 (omega arith)) ∙ none_any p xs (λ i l. h (suc i) (omega (arith, l)))
+stands_at : (i : ℕ) → i < length tags → stands (letter_of (text_of known i)) i ≡ true
+stands_at i within = agree_below_at (λ n. stands (letter_of (text_of known n)) n) (λ n. true) (length tags) i refl within
 
 -- no known name from the first with this letter up to a number is the text
 abbrev pub Passed : (letter end : ℕ) → List ℕ → Type 0
 Passed letter end text = (i : ℕ) → get_or FIRST letter 0 ≤ i → i < end → bytes_eq (text_of known i) text ≡ false
 
-pub passed_none : (letter : ℕ) (text : List ℕ) → Passed letter (get_or FIRST letter 0) text
-passed_none letter text i from to = absurd (omega (arith, from, to))
-
-pub passed_more : (letter end : ℕ) (text : List ℕ) → end < 127 → Passed letter end text → bytes_eq (tag_text (get_or tags end A)) text ≡ false → Passed letter (end + 1) text
+pub passed_more : (letter end : ℕ) (text : List ℕ) → end < length tags → Passed letter end text → bytes_eq (tag_text (get_or tags end A)) text ≡ false → Passed letter (end + 1) text
 passed_more letter end text within h not_it i from to = elim (cases_lt i end) [
   | inl less ↦ h i from less
   | inr past ↦
@@ -54,10 +49,10 @@ passed_more letter end text within h not_it i from to = elim (cases_lt i end) [
       ∙ ap (λ (x : List ℕ). bytes_eq x text) (get_or_from_slice_get known end (tag_text (get_or tags end A)) [] (known_tag end A within)) ∙ not_it
 ]
 
-first_within : (n : ℕ) → n < 27 → get_or FIRST n 0 ≤ 127
-first_within n within = leb-true (get_or FIRST n 0) 127 (agree_below_at (λ n. nat_le (get_or FIRST n 0) 127) (λ n. true) 27 n refl within)
+first_within : (n : ℕ) → n < 27 → get_or FIRST n 0 ≤ length tags
+first_within n within = leb-true (get_or FIRST n 0) (length tags) (agree_below_at (λ n. nat_le (get_or FIRST n 0) (length tags)) (λ n. true) 27 n refl within)
 
-pub tag_within : (letter i : ℕ) → letter < 26 → i < get_or FIRST (letter + 1) 0 → i < 127
+pub tag_within : (letter i : ℕ) → letter < 26 → i < get_or FIRST (letter + 1) 0 → i < length tags
 tag_within letter i few less = omega (arith, less, first_within (letter + 1) (omega (arith, few)))
 
 -- a text is no known name if it is none of those with its first letter, and not the attribute's
@@ -72,9 +67,9 @@ none_at text i (Some letter) h s =
     h i (leb-true (get_or FIRST letter 0) i from) (ltb-true i (get_or FIRST (letter + 1) 0) to)
 
 pub none_known : (text : List ℕ) → IsNoneOf (letter_of text) text → bytes_eq text type_name ≡ false → list_any (bytes_eq text) known ≡ false
-none_known text h other = none_any (bytes_eq text) known (λ i within. elim (cases_lt i 127) [
+none_known text h other = list_any_none (bytes_eq text) known (λ i d within. ap (bytes_eq text) (get_or_default known i d [] within) ∙ elim (cases_lt i (length tags)) [
   | inl less ↦ different text (text_of known i) (λ e.
       let s : stands (letter_of text) i ≡ true = ap (λ (x : List ℕ). stands (letter_of x) i) e ∙ stands_at i less in
       false≢true (sym (none_at text i (letter_of text) h s) ∙ (bytes_eq-Decides (text_of known i) text).1 (sym e)))
-  | inr past ↦ let e : i ≡ 127 = omega (arith, within, past) in ap (λ (n : ℕ). bytes_eq text (text_of known n)) e ∙ other
+  | inr past ↦ let e : i ≡ length tags = omega (arith, within, past) in ap (λ (n : ℕ). bytes_eq text (text_of known n)) e ∙ other
 ])

@@ -1,24 +1,24 @@
 -- Laws of a table's texts.
-use Rattle.names.proofs.Vocabulary.{◌≡◌, ℕ, zero, suc, ◌+◌, ◌<◌, ◌≤◌, true, false, List, [], ◌∷◌, ◌++◌, length, map, get_or, Option, Some, None, sym, refl, ap, ◌∙◌, arith, length-append, bytes_eq-Decides, String, option_map, slice_get, position, list_all, list_any, append-nil, zero-add, nat_lt, not, ◌&&◌, cases_lt, and_parts, slice_get-get_or, slice_get-map, inl, inr, Texts, text_of, AreDistinct, AreNames, known, AreOthers}
-use Rattle.std.proofs.Common.{◌-◌, ◌^◌, rules}
+use Rattle.names.proofs.Vocabulary.{◌≡◌, ◌||◌, Bool, ℕ, zero, suc, ◌+◌, ◌<◌, ◌≤◌, true, false, List, [], ◌∷◌, ◌++◌, length, map, get_or, Option, Some, None, sym, refl, ap, ◌∙◌, arith, length-append, bytes_eq-Decides, String, option_map, slice_get, position, list_all, list_any, append-nil, zero-add, nat_lt, not, ◌&&◌, cases_lt, and_parts, get_or-map, slice_get-get_or, slice_get-map, inl, inr, Texts, text_of, AreDistinct, AreNames, known, AreOthers}
+use Rattle.std.proofs.Common.{◌-◌, ◌^◌}
 use Rattle.std.proofs.lemmas.List.{append_assoc, map-append, get_or_append_left, get_or-append-add}
 use Rattle.std.proofs.lemmas.Map.Keys.{apart_from_distinct}
 use Rattle.std.proofs.lemmas.List.Quantifiers.{position-Some}
-use Rattle.std.proofs.lemmas.Grind.{common_steps}
-use Rattle.std.specs.List.{IsDistinct}
-use Rattle.indexmap.specs.IndexMap.{IndexMap, get, get_by, insert_entry, keys}
-use Rattle.indexmap.proofs.CallerLemmas.{insert_entry-new}
+use Rattle.std.specs.List.{IsDistinct, position_or_len}
+use Rattle.indexmap.specs.IndexMap.{IndexMap, insert_entry, keys}
 use Rattle.std.specs.Map.{keys_of}
-use Rattle.std.proofs.Common.{is_some, true≢false}
+use Rattle.std.proofs.Common.{true≢false}
+use Rattle.std.proofs.lemmas.Bool.{cases_Bool}
 use Rattle.std.proofs.lemmas.Bool.Decides.{nat_tests}
 use Rattle.std.specs.Str.{bytes_eq}
 use Rattle.std.specs.String.{string_bytes, string_eq}
 use Rattle.std.proofs.Math.ListN.{length-map}
 use Rattle.std.proofs.Math.Seq.{take-append_seam}
-use Rattle.std.proofs.lemmas.List.Folds.{list_all-append, list_any_at}
-use Rattle.names.specs.Names.{interned}
+use Rattle.std.proofs.lemmas.List.Folds.{list_all-append, list_any-append, list_any_at}
+use Rattle.names.specs.Names.{interned, Grows}
 use Rattle.names.specs.Table.{is_other}
 use Rattle.names.proofs.Handing.{slice_get-append}
+use Rattle.names.proofs.KnownTags.{neither}
 use Rattle.names.proofs.KnownTexts.{known-distinct}
 
 -- the test of two texts says whether they are equal
@@ -28,17 +28,6 @@ bytes_eq-true xs ys h = (bytes_eq-Decides xs ys).0 h
 pub bytes_eq-same : (xs : List ℕ) → bytes_eq xs xs ≡ true
 bytes_eq-same xs = (bytes_eq-Decides xs xs).1 refl
 
--- the text at a key's place
-pub text_of-keys : {A : Type 0} (keys : List (String A)) (i : ℕ) (d : String A) → i < length keys → text_of (map string_bytes keys) i ≡ string_bytes (get_or keys i d)
-text_of-keys keys i d h = search (rules, common_steps)
-
--- the text found at a place is the text looked for
-pub text_of-position : {A : Type 0} (keys : List (String A)) (i : ℕ) (text : List ℕ) → position (λ k. bytes_eq text (string_bytes k)) keys ≡ Some i → text_of (map string_bytes keys) i ≡ text
-text_of-position [] i text h = cc
-text_of-position (k ∷ ks) i text h =
-    let at = position-Some (λ k. bytes_eq text (string_bytes k)) (k ∷ ks) i k h in
-    text_of-keys (k ∷ ks) i k at.0 ∙ sym (bytes_eq-true _ _ at.1)
-
 -- no two texts of a table are equal
 apart : {A : Type 0} (keys : List (String A)) (i j : ℕ) (d : String A) → IsDistinct string_eq keys → i < j → j < length keys → string_bytes (get_or keys i d) ≡ string_bytes (get_or keys j d) → ⊥
 apart keys i j d h less within same =
@@ -46,13 +35,13 @@ apart keys i j d h less within same =
     let yes : string_eq (get_or keys i d) (get_or keys j d) ≡ true = (bytes_eq-Decides _ _).1 same in
     cc
 
-pub distinct_from : {A : Type 0} (keys : List (String A)) → IsDistinct string_eq keys → AreDistinct (map string_bytes keys)
+distinct_from : {A : Type 0} (keys : List (String A)) → IsDistinct string_eq keys → AreDistinct (map string_bytes keys)
 distinct_from [] h i j p q same = absurd (omega (arith, p))
 distinct_from (k ∷ ks) h i j p q same =
     let p' : i < length (k ∷ ks) = simp length-map at p in
     let q' : j < length (k ∷ ks) = simp length-map at q in
     let e : string_bytes (get_or (k ∷ ks) i k) ≡ string_bytes (get_or (k ∷ ks) j k) =
-    sym (text_of-keys (k ∷ ks) i k p') ∙ same ∙ text_of-keys (k ∷ ks) j k q' in
+    sym (get_or-map string_bytes (k ∷ ks) i k [] p') ∙ same ∙ get_or-map string_bytes (k ∷ ks) j k [] q' in
     elim (cases_lt i j) [
       | inl less ↦ absurd (apart (k ∷ ks) i j k h less q' e)
       | inr other ↦ elim (cases_lt j i) [
@@ -61,17 +50,33 @@ distinct_from (k ∷ ks) h i j p q same =
       ]
     ]
 
--- nothing is stored at a key that was looked for in vain
-none_from : {X : Type 0} (o : Option X) → false ≡ is_some o → o ≡ None
-none_from None h = refl
-none_from (Some x) h = absurd cc
+-- a text that is found has the number of its place
+pub number_from_position : (names : Texts) (i : ℕ) (text : List ℕ) → position (bytes_eq text) names ≡ Some i → slice_get names i ≡ Some text
+number_from_position names i text h = let at = position-Some (bytes_eq text) names i [] h in slice_get-get_or names i [] at.0 ∙ ap Some (sym (bytes_eq-true _ _ at.1))
 
-pub absent : {A S : Type 0} (m : IndexMap (String A) (Unit {0}) S) (key : String A) (text : List ℕ) → string_bytes key ≡ text → false ≡ is_some (get_by (λ k. bytes_eq text (string_bytes k)) m) → get string_eq m key ≡ None
-absent m key text same found = ap (λ t. get_by (λ k. bytes_eq t (string_bytes k)) m) same ∙ none_from _ found
+-- one that is not is none of them
+any-position : {X : Type 0} (test : X → Bool) (xs : List X) → list_any test xs ≡ nat_lt (position_or_len test xs) (length xs)
+any-position test [] = refl
+any-position test (x ∷ xs) = grind (arith, any-position test xs, nat_tests)
 
--- and it then goes last
-pub grown : {A S : Type 0} (old new : IndexMap (String A) (Unit {0}) S) (key : String A) → get string_eq old key ≡ None → new.entries ≡ insert_entry string_eq old.entries key tt → keys new ≡ keys old ++ key ∷ []
-grown old new key none e = ap keys_of (e ∙ insert_entry-new string_eq old key tt none) ∙ map-append (λ (x : String _ × Unit {0}). x.0) old.entries ((key, tt) ∷ [])
+none_there : {X : Type 0} (test : X → Bool) (xs : List X) → position test xs ≡ None → list_any test xs ≡ false
+none_there test xs none = grind (arith, any-position test xs)
+
+any-keys : {A : Type 0} (text : List ℕ) (keys : List (String A)) → list_any (bytes_eq text) (map string_bytes keys) ≡ list_any (λ k. bytes_eq text (string_bytes k)) keys
+any-keys text [] = refl
+any-keys text (k ∷ ks) = ap (λ b. bytes_eq text (string_bytes k) || b) (any-keys text ks)
+
+-- and its key goes last
+put_last : {A : Type 0} (es : List (String A × Unit {0})) (key : String A) → list_any (string_eq key) (keys_of es) ≡ false → insert_entry string_eq es key tt ≡ es ++ (key, tt) ∷ []
+put_last [] key h = refl
+put_last (e ∷ es) key h = grind (arith, put_last es key)
+
+pub grown : {A S : Type 0} (old new : IndexMap (String A) (Unit {0}) S) (key : String A) → position (bytes_eq (string_bytes key)) (known ++ map string_bytes (keys old)) ≡ None
+    → new.entries ≡ insert_entry string_eq old.entries key tt → (list_any (bytes_eq (string_bytes key)) known ≡ false) × (keys new ≡ keys old ++ key ∷ [])
+grown old new key none e =
+    let text = string_bytes key in
+    let parts = neither _ _ (sym (list_any-append (bytes_eq text) known (map string_bytes (keys old))) ∙ none_there (bytes_eq text) (known ++ map string_bytes (keys old)) none) in
+    (parts.0, ap keys_of (e ∙ put_last old.entries key (sym (any-keys text (keys old)) ∙ parts.1)) ∙ map-append (λ (x : String _ × Unit {0}). x.0) old.entries ((key, tt) ∷ []))
 
 -- the key of the entry at a place
 pub key_at : {A S : Type 0} (m : IndexMap (String A) (Unit {0}) S) (i : ℕ) (o : Option (String A × Unit {0})) → o ≡ slice_get m.entries i → option_map (λ e. e.0) o ≡ slice_get (keys m) i
@@ -85,23 +90,6 @@ others_grown old new key h room other distinct e = record {
   distinct = distinct;
   fits = omega (arith, room, ap length e, length-append old (key ∷ []));
 }
-
--- the number of a text that was found
-pub number_from_position : {A : Type 0} (keys : List (String A)) (i : ℕ) (text : List ℕ) → position (λ k. bytes_eq text (string_bytes k)) keys ≡ Some i → slice_get (map string_bytes keys) i ≡ Some text
-number_from_position [] i text h = cc
-number_from_position (k ∷ ks) i text h =
-    let at = position-Some (λ k. bytes_eq text (string_bytes k)) (k ∷ ks) i k h in
-    let within : i < length (map string_bytes (k ∷ ks)) = simp length-map at.0 in
-    let e : text_of (map string_bytes (k ∷ ks)) i ≡ text = text_of-position (k ∷ ks) i text h in
-    slice_get-get_or (map string_bytes (k ∷ ks)) i [] within ∙ ap Some e
-
--- the number of a text that was put in last
-pub number_last : {A : Type 0} (old new : List (String A)) (key : String A) (text : List ℕ) → string_bytes key ≡ text → new ≡ old ++ key ∷ [] → slice_get (map string_bytes new) (length old) ≡ Some text
-number_last {A = A} old new key text is e = rw e (go old)
-  where
-    go : (ks : List (String A)) → slice_get (map string_bytes (ks ++ key ∷ [])) (length ks) ≡ Some text
-    go [] = ap Some is
-    go (k ∷ ks) = go ks
 
 -- what is after others
 pub text_of-after : (xs ys : Texts) (i : ℕ) → length xs ≤ i → text_of (xs ++ ys) i ≡ text_of ys (i - length xs)
@@ -147,15 +135,6 @@ are_names keys h = record {
   distinct = joined known (map string_bytes keys) known-distinct (distinct_from keys h.distinct) (λ i j. none_known keys i j h.others);
 }
 
--- the number of one of the others that was found, and of one that was put in last
-pub number_after : {A : Type 0} (keys : List (String A)) (i : ℕ) (text : List ℕ) → position (λ k. bytes_eq text (string_bytes k)) keys ≡ Some i
-    → slice_get (known ++ map string_bytes keys) (length known + i) ≡ Some text
-number_after keys i text h = slice_get-after known (map string_bytes keys) i ∙ number_from_position keys i text h
-
-pub number_after_all : {A : Type 0} (old new : List (String A)) (key : String A) (text : List ℕ) → string_bytes key ≡ text → new ≡ old ++ key ∷ []
-    → slice_get (known ++ map string_bytes new) (length known + length old) ≡ Some text
-number_after_all old new key text is e = slice_get-after known (map string_bytes new) (length old) ∙ number_last old new key text is e
-
 -- how long a table is, and what it is with one more
 pub table_length : {A : Type 0} (keys : List (String A)) (names : Texts) → known ++ map string_bytes keys ≡ names → length names ≡ length known + length keys
 table_length keys names e = ap length (sym e) ∙ length-append known (map string_bytes keys) ∙ ap (λ n. length known + n) (length-map keys string_bytes)
@@ -173,10 +152,10 @@ slice_get-past xs ys i past =
     ap (slice_get (xs ++ ys)) e ∙ slice_get-after xs ys (i - length xs)
 
 pub other_at : {A : Type 0} (keys : List (String A)) (names : Texts) (i : ℕ) (key : Option (String A)) → known ++ map string_bytes keys ≡ names → length known ≤ i
-    → key ≡ slice_get keys (i - 128) → slice_get names i ≡ option_map string_bytes key
+    → key ≡ slice_get keys (i - length known) → slice_get names i ≡ option_map string_bytes key
 other_at keys names i key is past found =
     ap (λ (x : Texts). slice_get x i) (sym is) ∙ slice_get-past known (map string_bytes keys) i past
-    ∙ slice_get-map string_bytes keys (i - 128) ∙ ap (option_map string_bytes) (sym found)
+    ∙ slice_get-map string_bytes keys (i - length known) ∙ ap (option_map string_bytes) (sym found)
 
 pub slice_get-within : (xs ys : Texts) (i : ℕ) → i < length xs → slice_get (xs ++ ys) i ≡ slice_get xs i
 slice_get-within xs ys i within =
@@ -187,12 +166,12 @@ slice_get-within xs ys i within =
 pub no_others : {A : Type 0} (keys : List (String A)) → keys ≡ [] → IsDistinct string_eq keys → AreOthers keys
 no_others keys none distinct = record { others = ap (list_all is_other) none; distinct = distinct; fits = omega (arith, ap length none) }
 
-pub no_others_known : {A : Type 0} (keys : List (String A)) → keys ≡ [] → known ++ map string_bytes keys ≡ known
-no_others_known keys none = ap (λ (x : List (String _)). known ++ map string_bytes x) none ∙ append-nil known
-
 -- a number that was there, and the next one
 pub interned-there : (names : Texts) (id : ℕ) (text : List ℕ) → id < length names → names ≡ interned text id names
 interned-there names id text less = let t : nat_lt id (length names) ≡ true = grind (arith, nat_tests) in rw t refl
+
+pub grows-interned : (names : Texts) (id : ℕ) (text : List ℕ) → Grows names (interned text id names)
+grows-interned names id text = elim (cases_Bool (nat_lt id (length names))) [ inl there ↦ rw there ([], sym (append-nil names)) | inr past ↦ rw past (text ∷ [], refl) ]
 
 pub interned-last : (names : Texts) (id : ℕ) (text : List ℕ) → length names ≤ id → interned text id names ≡ names ++ text ∷ []
 interned-last names id text past = let f : nat_lt id (length names) ≡ false = grind (arith, nat_tests) in rw f refl

@@ -10,7 +10,6 @@ use std::marker::Model;
 /// A value of at most this many bytes is kept in its attribute.
 const SHORT: usize = 23;
 
-/// A name and a value.
 #[derive(Debug, Drop)]
 enum Named {
     Short(NameId, ShortText<SHORT>),

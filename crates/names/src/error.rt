@@ -88,7 +88,6 @@ impl ErrorCode {
     }
 }
 
-/// Its text.
 impl fmt::Debug for ErrorCode {
     ghost debug_output = { λ code. Some (code_text code) };
 

@@ -2,7 +2,6 @@
 
 ghost use Rattle.std.specs.Prelude.{◌≡◌, ◌<◌, IfSome, MatchOption, bytes_eq, slice_get, Some, false};
 ghost use Rattle.std.specs.List.{list_any};
-ghost use Rattle.std.specs.Option.{option_map};
 ghost use Rattle.names.specs.Table.{letter_of};
 ghost use Rattle.names.specs.Tags.{known};
 
@@ -20,17 +19,13 @@ static FIRST: [u8; 27] = [
     126, 127, 127, 127,
 ];
 
-/// The text of a known name.
-pub(crate) fn known_text(index: usize) -> Option<&'static str>
-    ensures { option_map (λ t. t.now) result ≡ slice_get known index }
+pub(crate) fn known_text(index: usize) -> &'static str
+    requires { index < KNOWN }
+    ensures { Some result.now ≡ slice_get known index }
 {
-    if index < TAGS.len() {
-        return Some(TAGS[index].text());
-    }
-    if index == TAGS.len() {
-        Some(TYPE)
-    } else {
-        None
+    match TAGS.get(index) {
+        Some(tag) => tag.text(),
+        None => TYPE,
     }
 }
 
@@ -39,11 +34,8 @@ fn letter_of(text: &str) -> Option<usize>
     ensures letter { result ≡ letter_of text.now }
     ensures few { IfSome result (λ letter. letter < 26) }
 {
-    let first = *text.as_bytes().first()?;
-    if first < b'a' || first > b'z' {
-        return None;
-    }
-    Some(usize::from(first - b'a'))
+    let letter = text.as_bytes().first()?.checked_sub(b'a')?;
+    (letter < 26).then_some(usize::from(letter))
 }
 
 /// The number of a text, where it is that of a known name.
@@ -57,9 +49,5 @@ pub(crate) fn known_number(text: &str) -> Option<u32>
             return Some(index as u32);
         }
     }
-    if text == TYPE {
-        Some(TAGS.len() as u32)
-    } else {
-        None
-    }
+    (text == TYPE).then_some(TAGS.len() as u32)
 }

@@ -1,6 +1,6 @@
 //! Texts that lie in the values that have them.
 
-ghost use Rattle.std.specs.Prelude.{◌≡◌, ◌++◌, ◌≤◌, ◌+◌, ◌↔◌, [], length, nat_le, IsSome, IfSome, if◌then◌else◌};
+ghost use Rattle.std.specs.Prelude.{◌≡◌, ◌++◌, ◌≤◌, ◌+◌, ◌↔◌, length, nat_le, IsSome, IfSome, if◌then◌else◌};
 
 use std::fmt;
 use std::marker::Model;
@@ -23,18 +23,6 @@ impl<const CAP: usize> Model for ShortText<CAP> {
 }
 
 impl<const CAP: usize> ShortText<CAP> {
-    /// An empty text.
-    #[inline(always)]
-    fn new() -> Self
-        requires { CAP ≤ 255 }
-        ensures { result ≡ [] }
-    {
-        ShortText {
-            len: 0,
-            bytes: [0; CAP],
-        }
-    }
-
     /// A text, if it is short.
     #[inline(always)]
     pub fn of(text: &str) -> Option<Self>
@@ -42,11 +30,11 @@ impl<const CAP: usize> ShortText<CAP> {
         ensures short { IsSome result ↔ (length text.now ≤ CAP) }
         ensures same { IfSome result (λ short. short ≡ text.now) }
     {
-        let mut short = Self::new();
-        if short.push_str(text) {
-            return Some(short);
-        }
-        None
+        let mut short = ShortText {
+            len: 0,
+            bytes: [0; CAP],
+        };
+        short.push_str(text).then_some(short)
     }
 
     /// The text.

@@ -44,21 +44,15 @@ impl NameId {
         ensures text { (names : Texts) → AreNames names → slice_get names result ≡ Some type_name }
         ensures tag { tag_of result ≡ Tag.Other }
     {
-        NameId {
-            index: TAGS.len() as u32,
-        }
+        let index = TAGS.len() as u32;
+        NameId { index }
     }
 
     /// The known name with this number, or `Tag::Other`.
     pub fn tag(self) -> Tag
         ensures { result ≡ tag_of self }
     {
-        let index = self.index();
-        if index < TAGS.len() {
-            TAGS[index]
-        } else {
-            Tag::Other
-        }
+        TAGS.get(self.index()).copied().unwrap_or(Tag::Other)
     }
 }
 
@@ -114,23 +108,10 @@ fn few_are_same(a: &[u8], b: &[u8]) -> bool
     }
 }
 
-/// Whether these are the same bytes, of which there are at most seven: four are compared at once.
-#[inline(always)]
-fn short_are_same(a: &[u8], b: &[u8]) -> bool
-    ensures { result ≡ true → a.now ≡ b.now }
-{
-    match (a, b) {
-        ([a, c, e, g, more @ ..], [b, d, f, h, others @ ..]) => {
-            a == b && c == d && e == f && g == h && few_are_same(more, others)
-        }
-        _ => few_are_same(a, b),
-    }
-}
-
 /// A name with so many bytes is no short one.
 const LONG: usize = 8;
 
-/// Whether two names are the same. Most are short, and a call takes longer than to compare these.
+/// Whether two names are the same. Most are short: four bytes are compared at once, in less time than a call takes.
 #[inline(always)]
 fn are_same(a: &str, b: &str) -> bool
     ensures { result ≡ true → a.now ≡ b.now }
@@ -138,7 +119,12 @@ fn are_same(a: &str, b: &str) -> bool
     if a.len() >= LONG {
         return a == b;
     }
-    short_are_same(a.as_bytes(), b.as_bytes())
+    match (a.as_bytes(), b.as_bytes()) {
+        ([a, c, e, g, more @ ..], [b, d, f, h, others @ ..]) => {
+            a == b && c == d && e == f && g == h && few_are_same(more, others)
+        }
+        (a, b) => few_are_same(a, b),
+    }
 }
 
 /// A table of names: texts in the order in which they were added, the known names first.
@@ -227,10 +213,8 @@ impl Names {
         if let Some(index) = known_number(text) {
             return Some(NameId { index });
         }
-        let index = others.get_index_of(text)?;
-        Some(NameId {
-            index: (KNOWN + index) as u32,
-        })
+        let index = (KNOWN + others.get_index_of(text)?) as u32;
+        Some(NameId { index })
     }
 
     /// The number that its slot has for a text, if it is the text's.
@@ -241,38 +225,23 @@ impl Names {
     {
         let index = self.recent[slot_of(text)];
         let found = self.nth(index as usize)?;
-        if are_same(found, text) {
-            Some(NameId { index })
-        } else {
-            None
-        }
+        are_same(found, text).then_some(NameId { index })
     }
 
-    /// The number of a text: that of a known name without a hash, and else by its hash.
+    /// The number of a text, which is added if it is new.
     fn number_of(&mut self, alloc: Global, text: &str) -> Result<NameId, AllocError>
-        requires names { AreNames self.old }
         ensures number { IfOk result (λ id. slice_get self.new id ≡ Some text.now) }
-        ensures tag { IfOk result (λ id. tag_of id ≡ tag_named text.now) }
-        ensures grows { Grows self.old self.new }
         ensures added { IfOk result (λ id. self.new ≡ interned text.now id self.old) }
-        ensures names { AreNames self.new }
         ensures unchanged { OnErr result (self.new ≡ self.old) }
     {
-        if let Some(index) = known_number(text) {
-            return Ok(NameId { index });
+        if let Some(id) = self.find(text) {
+            return Ok(id);
         }
-        match self.others.get_index_of(text) {
-            Some(index) => Ok(NameId {
-                index: (KNOWN + index) as u32,
-            }),
-            None => {
-                let Ok(index) = u32::try_from(KNOWN + self.others.len()) else {
-                    return Err(AllocError);
-                };
-                self.others.insert(String::from_str(alloc, text)?, ())?;
-                Ok(NameId { index })
-            }
-        }
+        let Ok(index) = u32::try_from(KNOWN + self.others.len()) else {
+            return Err(AllocError);
+        };
+        self.others.insert(String::from_str(alloc, text)?, ())?;
+        Ok(NameId { index })
     }
 
     /// The text of the name with this number, if the table has so many: 0 is the first.
@@ -283,7 +252,7 @@ impl Names {
         prove!(self.are_names());
         let others = &self.others;
         if index < KNOWN {
-            return known_text(index);
+            return Some(known_text(index));
         }
         let (text, _) = others.get_index(index - KNOWN)?;
         Some(text.as_str())

@@ -46,7 +46,6 @@ impl Tag {
     }
 }
 
-/// Its text.
 impl fmt::Debug for Tag {
     ghost debug_output = { λ tag. Some (tag_text tag) };
 

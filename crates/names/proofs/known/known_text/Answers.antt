@@ -1,10 +1,11 @@
-use Rattle.names.proofs.Vocabulary.{arith, ap, sym, ◌∙◌, Some, known, A}
-use Rattle.std.proofs.lemmas.Option.{slice_get_past}
+use Rattle.names.proofs.Vocabulary.{◌≡◌, arith, ap, sym, ◌∙◌, length, Some, slice_get, known, tags, tag_text, A}
 use Rattle.names.proofs.KnownTexts.{known_tag}
 use Rattle.names.proofs.known.known_text.Goals as goal
 
-pub returns-then-index-lt127 : goal.returns-then-index-lt127
-returns-then-index-lt127 c = ap Some c.text.ensures ∙ sym (known_tag c.args.index A c.if-index-lt127.true)
+pub returns-in-Some : goal.returns-in-Some
+returns-in-Some c =
+    let there = c.in-Some.ensures.lookup.3 in
+    ap Some (c.text.ensures ∙ ap tag_text (there.1 A)) ∙ sym (known_tag c.args.index A there.0)
 
-pub returns-else-index-eq127 : goal.returns-else-index-eq127
-returns-else-index-eq127 c = sym (slice_get_past known c.args.index (let less = c.if-index-lt127.false in let same = c.if-index-eq127.false in omega (arith, less, same)))
+pub returns-in-None : goal.returns-in-None
+returns-in-None c = let is : c.args.index ≡ length tags = omega (arith, c.in-None.ensures.lookup.3, c.requires) in ap (slice_get known) (sym is)
