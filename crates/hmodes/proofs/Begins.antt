@@ -1,11 +1,10 @@
 -- Characters that are put after the formatting elements were reconstructed: the first of them reconstructs these.
-use Rattle.hmodes.proofs.Vocabulary.{◌≡◌, ◌≢◌, inl, inr, ℕ, Bool, true, false, List, ◌∷◌, None, Result, Ok, Err, refl, sym, ◌∙◌, ap, subst, ◌&&◌, ◌==◌, if◌then◌else◌, false≢true, is_space, characters, Hands, Placed, Refusal, run_tokens, Gives, put_each, numbers, reconstructed, Outcome, Goes, SiteOf, and_then, OnGoes, perform, flow_of, with_site, rule_of, State, Token, character, flow_then, Rule, Chain, ends, refuses, goes_again, Step, drops, goes, is_dropped, step_begun, put, Building, TakesToken, StepGives, refused_by, AreSome, before_text, puts_in, put_all, Mode, Alone}
+use Rattle.hmodes.proofs.Vocabulary.{◌≡◌, ◌≢◌, inl, inr, ℕ, Bool, true, false, List, ◌∷◌, None, Result, Ok, Err, refl, sym, ◌∙◌, ap, subst, ◌&&◌, ◌==◌, false≢true, characters, Hands, Placed, Refusal, run_tokens, Gives, put_each, numbers, reconstructed, Outcome, Goes, SiteOf, and_then, OnGoes, perform, flow_of, with_site, State, Token, character, flow_then, Rule, Chain, ends, refuses, goes_again, Step, drops, goes, is_dropped, step_begun, put, Building, TakesToken, StepGives, refused_by, AreSome, before_text, puts_in, put_all, Mode, Alone, char_rule, is_for_text, rules}
 use Rattle.htoken.specs.declared.token.Token.TheVariants as code
 use Rattle.hadopt.specs.Site as site
 use Rattle.hmodes.specs.declared.mode.Mode.TheVariants as mode
-use Rattle.hmodes.specs.declared.token_kind.TokenKind.TheVariants.{Ws, Char, Nul}
 use Rattle.hmodes.proofs.InRun.{run_put, taken, takes-on}
-use Rattle.hmodes.proofs.OnePut.{here, rule_puts, puts_now}
+use Rattle.hmodes.proofs.OnePut.{here, rule-char, rule_puts, puts_now}
 use Rattle.hmodes.proofs.Renewed.{text-begins}
 
 -- a mode whose text is not that of an element reconstructs the formatting elements
@@ -36,23 +35,14 @@ gives-same at t s s' new (Err e) steps (inl m) = inl m
 gives-same at t s s' new (Err e) steps (inr h) = inr (steps (site.Refused e) h)
 
 -- what the rule of a character is made of
-module _ (at c : ℕ) (s : State ℕ) where
-  starts : (m : Mode) (space : Bool) → puts_in m ≡ true
-      → perform numbers at (character c) (rule_of m (if space then Ws else Char)) s ≡ flow_then (flow_of s (before_text at m s.site)) (perform numbers at (character c) put)
-  starts mode.Text true h = refl
-  starts mode.Text false h = refl
-  starts mode.InBody true h = refl
-  starts mode.InBody false h = refl
-  starts mode.InCaption true h = refl
-  starts mode.InCaption false h = refl
-  starts mode.InCell true h = refl
-  starts mode.InCell false h = refl
-  starts _ space h = absurd (false≢true h)
+for-text : (m : Mode) → puts_in m ≡ true → is_for_text m ≡ true
+for-text mode.Text h = refl
+for-text _ h = cc
 
-  rule-starts : (c == 0) ≡ false → puts_in s.control.mode ≡ true
-      → Rule numbers at (character c) s ≡ flow_then (flow_of s (before_text at s.control.mode s.site)) (perform numbers at (character c) put)
-  rule-starts some h =
-      ap (λ (b : Bool). perform numbers at (character c) (rule_of s.control.mode (if b then Nul else if is_space c then Ws else Char)) s) some ∙ starts s.control.mode (is_space c) h
+module _ (at c : ℕ) (s : State ℕ) where
+  starts : (m : Mode) → puts_in m ≡ true → perform numbers at (character c) (char_rule m) s ≡ flow_then (flow_of s (before_text at m s.site)) (perform numbers at (character c) put)
+  starts mode.Text h = refl
+  starts _ h = first_of (cc, search rules)
 
 module _ (b : Building) (free : b.refused ≡ None) (off : b.state.site.foster ≡ false) (keeps_lf : b.state.control.drop_lf ≡ false) (puts : puts_in b.state.control.mode ≡ true) (p : Placed) (some : (p.ch == 0) ≡ false) where
   abbrev begin : State ℕ
@@ -68,7 +58,7 @@ module _ (b : Building) (free : b.refused ≡ None) (off : b.state.site.foster �
   before = before_text p.at b.state.control.mode b.state.site
 
   rule-is : (o : Outcome (SiteOf ℕ)) → before ≡ o → Rule numbers p.at (character p.ch) begin ≡ flow_then (flow_of begin o) (perform numbers p.at (character p.ch) put)
-  rule-is o is = rule-starts p.at p.ch begin some puts ∙ ap (λ (q : Outcome (SiteOf ℕ)). flow_then (flow_of begin q) (perform numbers p.at (character p.ch) put)) is
+  rule-is o is = rule-char p.at p.ch begin some (for-text b.state.control.mode puts) ∙ starts p.at p.ch begin b.state.control.mode puts ∙ ap (λ (q : Outcome (SiteOf ℕ)). flow_then (flow_of begin q) (perform numbers p.at (character p.ch) put)) is
 
   -- one that is refused
   wrong : (e : Refusal) (x : SiteOf ℕ) (ps : List Placed) → StepGives p.at (character p.ch) b.state (Err e) (with_site x begin) → Hands TakesToken b (run_tokens (p ∷ ps)) (Err e) (after x (Err e))

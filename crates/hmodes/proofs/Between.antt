@@ -9,7 +9,7 @@ use Rattle.hmodes.proofs.HeadFacts.{HeadFacts, FlowFacts, Facts, OutOf, late-fac
 use Rattle.hmodes.proofs.HeadRules.{rule-facts}
 use Rattle.hmodes.specs.Step as step
 use Rattle.hnodes.specs.Forest as forest
-use Rattle.hmodes.proofs.Stands.{FlowWell, HeadOut, rule-well}
+use Rattle.hmodes.proofs.Stands.{FlowWell, rule-well}
 
 -- what is asked of names
 pub record Tells {N : Type 0} (n : Naming N) : Type 0 where
@@ -97,22 +97,16 @@ module _ {N : Type 0} (n : Naming N) where
     together (Again t s) r w f h = record { well = w; head = f; sound = h.0 }
     together (Refused e) r w f h = tt
 
-    head-out : (s : State N) → HeadFacts s → s.control.mode ≡ AfterHead → HeadOut n tells.tables s
-    head-out s f is h e = let o = out-of s f is h e in record { stands = o.0; out = o.1 }
-
     -- every rule keeps it
     pub rule-orderly : (at : ℕ) (t : Token N) (s : State N) → Orderly s → FlowOrderly (Rule n at t s)
     rule-orderly at t s o =
-        together (Rule n at t s) (cap (kind_of n t) s.control.mode) (rule-well n tells.tables at t s (head-out s o.head) o.well) (rule-facts n tells.tables at t s o.well o.head) (rule-down n tells.img at t s o.sound)
+        together (Rule n at t s) (cap (kind_of n t) s.control.mode) (rule-well n tells.tables at t s (λ is h e. let p = out-of s o.head is h e in record { stands = p.0; out = p.1 }) o.well) (rule-facts n tells.tables at t s o.well o.head) (rule-down n tells.img at t s o.sound)
 
     pub again-orderly : (at : ℕ) (t t' : Token N) (s s' : State N) → Orderly s → Rule n at t s ≡ Again t' s' → Orderly s'
     again-orderly at t t' s s' o rule = subst FlowOrderly rule (rule-orderly at t s o)
 
-    pub done-orderly : (at : ℕ) (t : Token N) (s s' : State N) → Orderly s → Rule n at t s ≡ Done s' → Orderly (finished at t s')
-    done-orderly at t s s' o rule = orderly-finishes at t s' (subst FlowOrderly rule (rule-orderly at t s o))
-
     chain-orderly : (at : ℕ) (t : Token N) (s : State N) (o : Outcome (State N)) → Orderly s → Chain n at t s o → OnGoes Orderly o
-    chain-orderly at t s o g (ends {s' = s'} rule) = done-orderly at t s s' g rule
+    chain-orderly at t s o g (ends {s' = s'} rule) = orderly-finishes at t s' (subst FlowOrderly rule (rule-orderly at t s g))
     chain-orderly at t s o g (refuses rule) = tt
     chain-orderly at t s o g (goes_again {t' = t'} {s' = s'} rule rest) = chain-orderly at t' s' o (again-orderly at t t' s s' g rule) rest
 

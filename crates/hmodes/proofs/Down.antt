@@ -94,9 +94,6 @@ may_fall k r w _ = false
 abbrev falls : Mode → TokenKind → Bool
 falls m k = keeps is_texty is_texty (may_fall k (cap k m)) (At m) (is_texty m) (rule_of m k)
 
-falls-rule : (m : Mode) (k : TokenKind) → falls m k ≡ true
-falls-rule = in-each falls refl
-
 -- in text, what is saved is not text again
 abbrev pub Sound : Control → Type 0
 Sound c = is_texty c.mode ≡ true → is_texty c.saved ≡ false
@@ -144,4 +141,4 @@ module _ {N : Type 0} (n : Naming N) (tells : n.tag (n.known tag.Img) ≡ tag.Im
       comes-less (λ u. Holds is_texty is_texty (mode_after is_texty is_texty (At m) p) (leaves (is_texty m) p) u.control) (λ u. Sound u.control) (Lower r) (Lower r) (λ e. Unit {0}) (λ u d. d.sound) (λ u v a. a) (Rule n at t s)
       (perform-keeps is_texty is_texty n (λ c st. ((reset-found n c st).1, (reset-found n c st).1)) (may_fall k r) (λ u. kind_of n u ≡ k) (Lower r)
       (record { same = λ w b u v e o d. (d.sound, rw o (lower-is k r w v.control.mode e d.mode)); other = renamed-lower k r; flagged = λ u v a. a })
-      (At m) (is_texty m) p (falls-rule m k) at t refl s (record { mode = refl; saved = h; sound = h }))
+      (At m) (is_texty m) p (in-each falls refl m k) at t refl s (record { mode = refl; saved = h; sound = h }))

@@ -38,14 +38,8 @@ is-tabular _ _ e = never e
 tabular-weight : (c : ℕ) → 1 + (30 + (c + c) + 0) ≡ 31 + (c + c)
 tabular-weight c = omega arith
 
-extra-most : (m : Mode) → extra m ≤ 1
-extra-most m = leb-true (extra m) 1 (each-mode (λ m. leb (extra m) 1) refl m)
-
-cap-most : (k : TokenKind) (m : Mode) → cap k m ≤ 40
-cap-most k m = leb-true (cap k m) 40 (in-each (λ m k. leb (cap k m) 40) refl m k)
-
 weight-most : (k : TokenKind) (m : Mode) (count : ℕ) → is_texty m ≡ false → weight k m count ≤ 32 + (count + count)
-weight-most k m count e = cond_both (is_tabular k m) (30 + (count + count) + extra m) (level k m) (λ z. 1 + z ≤ 32 + (count + count)) (λ _. omega (arith, extra-most m)) (λ _. omega (arith, leb-true (level k m) 30 (level-plain k m e)))
+weight-most k m count e = cond_both (is_tabular k m) (30 + (count + count) + extra m) (level k m) (λ z. 1 + z ≤ 32 + (count + count)) (λ _. omega (arith, leb-true (extra m) 1 (each-mode (λ m. leb (extra m) 1) refl m))) (λ _. omega (arith, leb-true (level k m) 30 (level-plain k m e)))
 
 -- no character is reprocessed in table text
 waits : (k : TokenKind) → is_char k ≡ true → never_again (in_table_text k) ≡ true
@@ -130,16 +124,13 @@ module _ {N : Type 0} (n : Naming N) where
   tabular-falls : (at : ℕ) (t t' : Token N) (s s' : State N) → is_texty s'.control.mode ≡ false → is_tabular (kind_of n t) s.control.mode ≡ true → Rule n at t s ≡ Again t' s' → weight_of t' s' < weight_of t s
   tabular-falls at t t' s s' plain e rule = go (kind_of n t) s.control.mode refl refl (is-tabular (kind_of n t) s.control.mode e) rule
     where
-      scoped : in_scope (stops_in_scope n.tag scope.Table) (is n tag.Table) (stack s.site) ≡ in_scope (stops_in_scope n.tag scope.Table) (is n tag.Table) (stack s.site)
-      scoped = refl
-
       closing : (k : TokenKind) (m : Mode) → kind_of n t ≡ k → s.control.mode ≡ m
           → weight k m (length (stack s.site)) ≡ 31 + (length (stack s.site) + length (stack s.site)) → perform n at t (in_table (Start family.Table)) s ≡ Again t' s'
           → weight_of t' s' < weight_of t s
       closing k m e is weighs rule =
           let same : weight_of t s ≡ 31 + (length (stack s.site) + length (stack s.site)) =
           ap (λ (x : TokenKind). weight x s.control.mode (length (stack s.site))) e ∙ ap (λ (x : Mode). weight k x (length (stack s.site))) is ∙ weighs in
-          subst (λ (x : ℕ). weight_of t' s' < x) (sym same) (closes at t t' s s' plain _ scoped rule)
+          subst (λ (x : ℕ). weight_of t' s' < x) (sym same) (closes at t t' s s' plain _ refl rule)
 
       go : (k : TokenKind) (m : Mode) → kind_of n t ≡ k → s.control.mode ≡ m → Tabular k m → perform n at t (rule_of m k) s ≡ Again t' s' → weight_of t' s' < weight_of t s
       go k m e is table rule = closing k m e is (tabular-weight (length (stack s.site))) rule
@@ -151,19 +142,13 @@ module _ {N : Type 0} (n : Naming N) where
       → Rule n at t s ≡ Again t' s' → weight_of t' s' < weight_of t s
   plain-falls at t t' s s' plain plain' low rule = go (is_tabular (kind_of n t) s.control.mode) refl low
     where
-      k' : TokenKind
-      k' = kind_of n t'
-
-      m' : Mode
-      m' = s'.control.mode
-
-      among : (v : Bool) → is_tabular k' m' ≡ v → level k' m' < level (kind_of n t) s.control.mode
-          → 1 + cond v (30 + (length (stack s'.site) + length (stack s'.site)) + extra m') (level k' m') < 1 + level (kind_of n t) s.control.mode
+      among : (v : Bool) → is_tabular (kind_of n t') s'.control.mode ≡ v → level (kind_of n t') s'.control.mode < level (kind_of n t) s.control.mode
+          → 1 + cond v (30 + (length (stack s'.site) + length (stack s'.site)) + extra s'.control.mode) (level (kind_of n t') s'.control.mode) < 1 + level (kind_of n t) s.control.mode
       among false e l = omega (arith, l)
-      among true e l = omega (arith, l, tabular-level k' m' e, leb-true (level (kind_of n t) s.control.mode) 30 (level-plain (kind_of n t) s.control.mode plain))
+      among true e l = omega (arith, l, tabular-level (kind_of n t') s'.control.mode e, leb-true (level (kind_of n t) s.control.mode) 30 (level-plain (kind_of n t) s.control.mode plain))
 
-      go : (v : Bool) → is_tabular (kind_of n t) s.control.mode ≡ v → level k' m' < cond v 40 (level (kind_of n t) s.control.mode) → weight_of t' s' < weight_of t s
-      go false e l = rw e (among (is_tabular k' m') refl l)
+      go : (v : Bool) → is_tabular (kind_of n t) s.control.mode ≡ v → level (kind_of n t') s'.control.mode < cond v 40 (level (kind_of n t) s.control.mode) → weight_of t' s' < weight_of t s
+      go false e l = rw e (among (is_tabular (kind_of n t') s'.control.mode) refl l)
       go true e l = tabular-falls at t t' s s' plain' e rule
 
   module _ (tells : n.tag (n.known tag.Img) ≡ tag.Img) where
@@ -175,7 +160,7 @@ module _ {N : Type 0} (n : Naming N) where
         low = (subst (FlowFalls n tells (cap (kind_of n t) s.control.mode)) rule (rule-down n tells at t s sound)).1
 
         under : level (kind_of n t') s'.control.mode < 40
-        under = omega (arith, low, cap-most (kind_of n t) s.control.mode)
+        under = omega (arith, low, leb-true (cap (kind_of n t) s.control.mode) 40 (in-each (λ m k. leb (cap k m) 40) refl s.control.mode (kind_of n t)))
 
         go : (v : Bool) → is_texty s.control.mode ≡ v → (u : Bool) → is_texty s'.control.mode ≡ u → cond u (after_text (Rule n at t' s')) (weight_of t' s') < cond v (after_text (Rule n at t s)) (weight_of t s)
         go true e true e' = rw (rule, stays at t' s' e' under) (omega arith)

@@ -28,10 +28,6 @@ pub err-state : {A : Type 0} (r : Result A Refusal) (d : Refusal) (new : State �
 err-state (Ok c) d new x h k = absurd h
 err-state (Err e) d new x h k = subst (λ (y : Refusal). (y ≡ Memory) ⊎ (x ≡ Refused y)) (sym h) k
 
-pub err-flow : (r : Result Answer Refusal) (d : Refusal) (t : Token ℕ) (new : State ℕ) (x : Flow ℕ) → IsErrAnd r (λ e. e ≡ d) → (d ≡ Memory) ⊎ (x ≡ Refused d) → FlowGives r t new x
-err-flow (Ok c) d t new x h k = absurd h
-err-flow (Err e) d t new x h k = subst (λ (y : Refusal). (y ≡ Memory) ⊎ (x ≡ Refused y)) (sym h) k
-
 -- the adoption agency for a listed element
 module _ (at name : ℕ) (s : State ℕ) where
   abbrev after : SiteOf ℕ → Outcome (SiteOf ℕ)

@@ -1,5 +1,5 @@
 -- Every rule keeps what its mode knows of the head.
-use Rattle.hmodes.proofs.Vocabulary.{Forest, by_test, Mode, InTableText, kind_of, rule_of, Rule, ◌≡◌, ◌≢◌, ℕ, ◌<◌, Bool, true, false, cond, leb, List, [], ◌∷◌, Option, Some, None, refl, sym, ◌∙◌, ap, subst, arith, drop, length, ◌&&◌, eq-eqb, ne_eqb, Attribute, element, LastIn, OpenNode, Refusal, TooDeep, Naming, Goes, SiteOf, stack, trees, with_stack, with_error, from_top, open_node, place, inserted, Each, Pairs, TellsTables, deep, deep-there, OnGoes, Well, erred, inserted-well, place-fits, BeforeHead, InHead, InHeadNoscript, AfterHead, InBody, Text, TokenKind, Ws, Start, End, Do, ◌▸◌, nothing, again, error, to, save_mode, to_saved, head_pointer, insert, insert_named, insert_comment, put, pop, push_head, remove_head, add_missing_to_first, Token, State, Flow, Done, Again, Refused, flow_then, token_name, token_attrs, token_text, token_char, void, raw, html_again, mode_error, before_head, head_unwritten, in_head, head_ends, in_head_noscript, noscript_ends, after_head, body_unwritten, late, text, perform, with_site, flow_of, current_node, head_pushed, removed}
+use Rattle.hmodes.proofs.Vocabulary.{Forest, by_test, Mode, InTableText, kind_of, rule_of, Rule, ◌≡◌, ◌≢◌, ℕ, ◌<◌, Bool, true, false, cond, leb, List, [], ◌∷◌, Option, Some, None, refl, sym, ◌∙◌, ap, subst, arith, drop, length, ◌&&◌, eq-eqb, ne_eqb, Attribute, element, LastIn, OpenNode, Refusal, TooDeep, Naming, Goes, SiteOf, stack, trees, with_stack, with_error, from_top, open_node, place, inserted, Each, Pairs, TellsTables, deep, deep-there, OnGoes, Well, erred, inserted-well, place-fits, BeforeHead, InHead, InHeadNoscript, AfterHead, InBody, Text, TokenKind, Ws, Start, End, Do, ◌▸◌, nothing, again, error, to, save_mode, to_saved, head_pointer, insert, insert_comment, put, pop, push_head, remove_head, add_missing_to_first, Token, State, Flow, Done, Again, Refused, flow_then, token_name, token_attrs, token_text, token_char, void, raw, html_again, mode_error, before_head, head_unwritten, in_head, head_ends, in_head_noscript, noscript_ends, after_head, body_unwritten, late, text, perform, with_site, flow_of, current_node, head_pushed, removed}
 use Rattle.hnodes.specs.Forest as forest
 use Rattle.names.specs.declared.tag.Tag.TheVariants as tag
 use Rattle.hadopt.specs.Site as site
@@ -79,24 +79,13 @@ module _ {N : Type 0} (n : Naming N) (tells : TellsTables n) (at : ℕ) (t : Tok
   void-quiet s w = after-insert (FlowQuiet n s) (token_name n t) (token_attrs t) s w _ (λ r. tt)
       (λ x a d. record { mode = refl; saved = refl; head = refl; open_now = ap (drop 1) d.1.1; steady = record { out = d.0.out; stays = d.0.stays } })
 
+  after-facts : (name : N) (attrs : List (Attribute N)) (s : State N) → Well n s.site → (g : State N → Flow N) → ((x : SiteOf N) → Well n x → Deeper n s.site x → FlowFacts (g (with_site x s)))
+      → FlowFacts (flow_then (flow_of s (inserted at name attrs (place n s.site) s.site)) g)
+  after-facts name attrs s w g = after-insert FlowFacts name attrs s w g (λ r. tt)
+
   raw-facts : (s : State N) → Well n s.site → Knows s.control.mode s.control.head (stack s.site) (trees s.site) → FlowFacts (perform n at t raw s)
-  raw-facts s w o = after-insert FlowFacts (token_name n t) (token_attrs t) s w _ (λ r. tt)
+  raw-facts s w o = after-facts (token_name n t) (token_attrs t) s w _
       (λ x a d. rw d.1.1 (knows-steady n s.control.mode s.control.head (stack s.site) s.site x w.each d.0 o))
-
-  noscript-facts : (s : State N) → Well n s.site → IsAt s.control.head (stack s.site) → FlowFacts (perform n at t (insert ▸ to InHeadNoscript) s)
-  noscript-facts s w o = after-insert FlowFacts (token_name n t) (token_attrs t) s w _ (λ r. tt) (λ x a d. rw d.1.1 o)
-
-  body-facts : (s : State N) → Well n s.site → FlowFacts (perform n at t (insert ▸ to InBody) s)
-  body-facts s w = after-insert FlowFacts (token_name n t) (token_attrs t) s w _ (λ r. tt) (λ x a d. tt)
-
-  unwritten-facts : (s : State N) → Well n s.site → FlowFacts (perform n at t (insert_named tag.Body ▸ to InBody ▸ again) s)
-  unwritten-facts s w = after-insert FlowFacts (n.known tag.Body) [] s w _ (λ r. tt) (λ x a d. tt)
-
-  head-facts : (s : State N) → Well n s.site → FlowFacts (perform n at t (insert ▸ head_pointer ▸ to InHead) s)
-  head-facts s w = after-insert FlowFacts (token_name n t) (token_attrs t) s w _ (λ r. tt) (λ x a d. rw d.1.1 refl)
-
-  head-unwritten-facts : (s : State N) → Well n s.site → FlowFacts (perform n at t (insert_named tag.Head ▸ head_pointer ▸ to InHead ▸ again) s)
-  head-unwritten-facts s w = after-insert FlowFacts (n.known tag.Head) [] s w _ (λ r. tt) (λ x a d. rw d.1.1 refl)
 
   pop-out : (hp : Option ℕ) (s : SiteOf N) → Well n s → IsAt hp (stack s) → OutOf hp (drop 1 (stack s)) (trees s)
   pop-out hp s w o = go (stack s) w.each w.order o
@@ -104,11 +93,8 @@ module _ {N : Type 0} (n : Naming N) (tells : TellsTables n) (at : ℕ) (t : Tok
       go : (open_now : List (OpenNode N)) → Each (λ x. (0 < deep x.node 0 (trees s)) × (0 < x.node)) open_now → Pairs (λ x y. deep y.node x.node (trees s) ≡ 0) open_now → IsAt hp open_now → OutOf hp (drop 1 open_now) (trees s)
       go [] e r i = absurd i
       go (x ∷ up) e r i = λ h j.
-          let same : x.node ≡ h = some (sym i ∙ j) in
+          let same : x.node ≡ h = cc in
           subst (λ (k : ℕ). ((0 < deep k 0 (trees s)) × (0 < k)) × Each (λ y. deep y.node k (trees s) ≡ 0) up) same (e.0, r.0)
-        where
-          some : {a b : ℕ} → Some a ≡ Some b → a ≡ b
-          some e = cc
 
   by-quiet : (p : Do) → quiet p ≡ true → (s : State N) → Well n s.site → HeadFacts s → FlowFacts (perform n at t p s)
   by-quiet p e s w f = quiet-flow n s (perform n at t p s) w (perform-quiet p e s w) f
@@ -118,16 +104,12 @@ module _ {N : Type 0} (n : Naming N) (tells : TellsTables n) (at : ℕ) (t : Tok
   in-head-rule k s is w o f =
       let q : (p : Do) → quiet p ≡ true → FlowFacts (perform n at t p s) = λ p e. by-quiet p e s w f in
       in-head-cases (λ p. FlowFacts (perform n at t p s)) (q put refl) (q insert_comment refl) (q (error InHead) refl) (q html_again refl) (quiet-flow n s (perform n at t void s) w (void-quiet s w) f) (raw-facts s w (rw is o))
-      (noscript-facts s w o) (pop-out s.control.head s.site w o) (pop-out s.control.head s.site w o) k
+      (after-facts (token_name n t) (token_attrs t) s w _ (λ x a d. rw d.1.1 o)) (pop-out s.control.head s.site w o) (pop-out s.control.head s.site w o) k
 
   pub noscript-rule : (k : TokenKind) (s : State N) → s.control.mode ≡ InHeadNoscript → Well n s.site → IsAt s.control.head (drop 1 (stack s.site)) → HeadFacts s → FlowFacts (perform n at t (in_head_noscript k) s)
   noscript-rule k s is w o f =
       let q : (p : Do) → quiet p ≡ true → FlowFacts (perform n at t p s) = λ p e. by-quiet p e s w f in
       noscript-cases (λ p. FlowFacts (perform n at t p s)) (q put refl) (q insert_comment refl) (q (error InHeadNoscript) refl) (q html_again refl) (quiet-flow n s (perform n at t void s) w (void-quiet s w) f) (raw-facts s w (rw is o)) o o k
-
-  -- text whose saved mode is one of the head's
-  pub text-rule : (k : TokenKind) (s : State N) → s.control.mode ≡ Text → Well n s.site → Facts s.control.saved s.control.saved s.control.head (drop 1 (stack s.site)) (trees s.site) → HeadFacts s → FlowFacts (perform n at t (text k) s)
-  text-rule k s is w o f = text-cases (λ p. FlowFacts (perform n at t p s)) (by-quiet put refl s w f) (by-quiet (error Text) refl s w f) o o k
 
   -- the head, where it is set, on top of the open nodes
   abbrev with_head : Option ℕ → List (OpenNode N) → List (OpenNode N)
@@ -190,12 +172,14 @@ module _ {N : Type 0} (n : Naming N) (tells : TellsTables n) (at : ℕ) (t : Tok
     pub after-head-rule : (k : TokenKind) → HeadFacts s → FlowFacts (perform n at t (after_head k) s)
     after-head-rule k f =
         let q : (p : Do) → quiet p ≡ true → FlowFacts (perform n at t p s) = λ p e. by-quiet p e s w f in
-        after-head-cases (λ p. FlowFacts (perform n at t p s)) (q put refl) (q insert_comment refl) (q (error AfterHead) refl) (q html_again refl) (body-facts s w) late-void late-raw (unwritten-facts s w) k
+        after-head-cases (λ p. FlowFacts (perform n at t p s)) (q put refl) (q insert_comment refl) (q (error AfterHead) refl) (q html_again refl)
+        (after-facts (token_name n t) (token_attrs t) s w _ (λ x a d. tt)) late-void late-raw (after-facts (n.known tag.Body) [] s w _ (λ x a d. tt)) k
 
   pub before-head-rule : (k : TokenKind) (s : State N) → Well n s.site → HeadFacts s → FlowFacts (perform n at t (before_head k) s)
   before-head-rule k s w f =
       let q : (p : Do) → quiet p ≡ true → FlowFacts (perform n at t p s) = λ p e. by-quiet p e s w f in
-      before-head-cases (λ p. FlowFacts (perform n at t p s)) (q nothing refl) (q insert_comment refl) (q (error BeforeHead) refl) (q html_again refl) (head-facts s w) (head-unwritten-facts s w) k
+      before-head-cases (λ p. FlowFacts (perform n at t p s)) (q nothing refl) (q insert_comment refl) (q (error BeforeHead) refl) (q html_again refl)
+      (after-facts (token_name n t) (token_attrs t) s w _ (λ x a d. rw d.1.1 refl)) (after-facts (n.known tag.Head) [] s w _ (λ x a d. rw d.1.1 refl)) k
 
 -- by the rules of any mode
 module _ {N : Type 0} where
@@ -220,6 +204,8 @@ module _ {N : Type 0} (n : Naming N) (tells : TellsTables n) where
         by-mode InHead is g = in-head-rule n tells at t (kind_of n t) s is w g f
         by-mode InHeadNoscript is g = noscript-rule n tells at t (kind_of n t) s is w g f
         by-mode AfterHead is g = after-head-rule n tells at t s is w g (kind_of n t) f
-        by-mode Text is g = by_test (is_early s.control.saved) (λ v. FlowFacts (perform n at t (text (kind_of n t)) s)) (λ e. text-rule n tells at t (kind_of n t) s is w (early-facts s.control.saved s.control.head (drop 1 (stack s.site)) (trees s.site) e g) f) (λ e. by-late Text (late-rule Text (kind_of n t)) is (λ i. e))
+        by-mode Text is g = by_test (is_early s.control.saved) (λ v. FlowFacts (perform n at t (text (kind_of n t)) s)) (λ e.
+            let o = early-facts s.control.saved s.control.head (drop 1 (stack s.site)) (trees s.site) e g in
+            text-cases (λ p. FlowFacts (perform n at t p s)) (by-quiet n tells at t put refl s w f) (by-quiet n tells at t (error Text) refl s w f) o o (kind_of n t)) (λ e. by-late Text (late-rule Text (kind_of n t)) is (λ i. e))
         by-mode InTableText is g = by-late InTableText (late-rule InTableText (kind_of n t)) is (λ i. g)
         by-mode m is g = by-late m (late-rule m (kind_of n t)) is (λ i. never i)

@@ -6,14 +6,6 @@ use Rattle.hadopt.specs.Inserts as inserts
 use Rattle.hmodes.proofs.Looping.{stands-after}
 use Rattle.hmodes.proofs.OnePut.{here, rule_puts, puts_now, puts-nodes, place-here}
 
--- what an operation goes to, or this state
-abbrev went : SiteOf ℕ → Outcome (SiteOf ℕ) → SiteOf ℕ
-went x (Goes y) = y
-went x (site.Refused r) = x
-
-goes-not : (x : SiteOf ℕ) (r : Refusal) → site.Refused r ≡ Goes x → ⊥
-goes-not x r e = absurd cc
-
 -- what comes of a token where nothing was refused before
 pub taken : (at : ℕ) (t : Token ℕ) (old new : Building) (answer : Result (Unit {0}) Refusal) → old.refused ≡ None → TakesTokenAt at t old answer new → BuilderTakesOn at t old answer new
 taken at t old new answer none given = subst (λ (q : Option Refusal). MatchOption q (BuilderTakesOn at t old answer new) (λ why. BuilderStaysRefused why old answer new)) none given
@@ -65,10 +57,6 @@ module _ (b : Building) (free : b.refused ≡ None) (off : b.state.site.foster �
       (subst (λ (s : State ℕ). Chain numbers at (character c) s (site.Refused r)) (sym h.begins) (refuses (rule_with at c v some ∙ ap (flow_of (with_nodes v)) e)))
 
   -- the first character, or each after another
-  took : (p : Placed) (v : Nodes ℕ) (old : Building) → Before v old → (p.ch == 0) ≡ false → (x : SiteOf ℕ) → inserts.put p.at p.ch to (site_with v) ≡ Goes x → TakesToken old (Alone (code.Char p.ch p.at)) (Ok tt) (after_put x None)
-  took p v old h some x e =
-      takes-on p.at (character p.ch) old (after_put x None) (Ok tt) h.refused (record { step = step_with p.at p.ch v old h some (Goes x) e; tokenizer_errors = sym h.tokenizer_errors; root = sym h.root; refused = refl })
-
   wrong : (p : Placed) (v : Nodes ℕ) (old : Building) → Before v old → (p.ch == 0) ≡ false → (x : SiteOf ℕ) (r : Refusal) → (r ≡ Memory) ⊎ (inserts.put p.at p.ch to (site_with v) ≡ site.Refused r)
       → TakesToken old (Alone (code.Char p.ch p.at)) (Err r) (after_put x (Some r))
   wrong p v old h some x r (inl m) = takes-on p.at (character p.ch) old (after_put x (Some r)) (Err r) h.refused (record { step = inl m; tokenizer_errors = sym h.tokenizer_errors; root = sym h.root; refused = refl })
@@ -105,21 +93,21 @@ module _ (b : Building) (free : b.refused ≡ None) (off : b.state.site.foster �
       put_first p ps v old h some rest e = by_room (is_full v) refl
         where
           stops : (a : Result (Unit {0}) Refusal) → is_full v ≡ true → site.Refused (TooManyNodes p.at) ≡ outcome_of a → HandsRun old (p ∷ ps) a
-          stops (Ok u) full is = absurd (goes-not x (TooManyNodes p.at) is)
+          stops (Ok u) full is = absurd cc
           stops (Err r) full is = (Err r, after_put x (Some r), wrong p v old h some x r (inr (ap (Put p v) full ∙ is)), (refl, refl))
 
           by_room : (full : Bool) → is_full v ≡ full → HandsRun old (p ∷ ps) answer
           by_room true full = stops answer full (sym (ap (λ (b : Bool). site.and_then (Put p v b) (inserts.put_each ps to)) full) ∙ e)
           by_room false full =
               let w : Nodes ℕ = add_char p.ch to v in
-              (Ok tt, after_put (site_with w) None, took p v old h some (site_with w) (ap (Put p v) full), rest w (sym (ap (λ (b : Bool). site.and_then (Put p v b) (inserts.put_each ps to)) full) ∙ e))
+              (Ok tt, after_put (site_with w) None, takes-on p.at (character p.ch) old (after_put (site_with w) None) (Ok tt) h.refused (record { step = step_with p.at p.ch v old h some (Goes (site_with w)) (ap (Put p v) full); tokenizer_errors = sym h.tokenizer_errors; root = sym h.root; refused = refl }), rest w (sym (ap (λ (b : Bool). site.and_then (Put p v b) (inserts.put_each ps to)) full) ∙ e))
 
       put_rest : (ps : List Placed) → AreSome (characters ps) → (v : Nodes ℕ) → inserts.put_each ps to (site_with v) ≡ outcome_of answer → HandsRun (after_put (site_with v) None) ps answer
       put_rest [] some v e = ends answer e
         where
           ends : (a : Result (Unit {0}) Refusal) → Goes (site_with v) ≡ outcome_of a → HandsRun (after_put (site_with v) None) [] a
-          ends (Ok u) is = (refl, ap (λ (y : SiteOf ℕ). after_put y None) (ap (went (site_with v)) is))
-          ends (Err r) is = absurd (goes-not (site_with v) r (sym is))
+          ends (Ok u) is = let same : site_with v ≡ x = cc in (refl, ap (λ (y : SiteOf ℕ). after_put y None) same)
+          ends (Err r) is = absurd cc
       put_rest (p ∷ ps) some v e = put_first p ps v (after_put (site_with v) None) (later v) some.0 (put_rest ps some.1) e
 
     -- the whole run

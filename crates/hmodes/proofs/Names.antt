@@ -44,33 +44,23 @@ module _ {N M : Type 0} (g : N → M) where
   flow-mapped s (Goes x) = refl
   flow-mapped s (site.Refused r) = refl
 
-  attrs-mapped : (t : Token N) → token_attrs (mapped_token g t) ≡ map (mapped_attribute g) (token_attrs t)
-  attrs-mapped (doctype a b c d) = refl
-  attrs-mapped t = refl
+  -- what a token holds
+  record Holds (t : Token N) : Type 0 where
+    attrs : token_attrs (mapped_token g t) ≡ map (mapped_attribute g) (token_attrs t)
+    text : token_text (mapped_token g t) ≡ token_text t
+    char : token_char (mapped_token g t) ≡ token_char t
+    node : doctype_node (mapped_token g t) ≡ mapped_what g (doctype_node t)
+    conforms_is : conforms (mapped_token g t) ≡ conforms t
+    quirks : (s : State N) → forces_quirks (mapped_state g s) (mapped_token g t) ≡ forces_quirks s t
+    other_name : (x : N) → renamed (g x) (mapped_token g t) ≡ mapped_token g (renamed x t)
+    closing : is_self_closing (mapped_token g t) ≡ is_self_closing t
+    dropped : (s : State N) → is_dropped (mapped_token g t) (mapped_state g s) ≡ is_dropped t s
 
-  text-mapped : (t : Token N) → token_text (mapped_token g t) ≡ token_text t
-  text-mapped (doctype a b c d) = refl
-  text-mapped t = refl
-
-  char-mapped : (t : Token N) → token_char (mapped_token g t) ≡ token_char t
-  char-mapped (doctype a b c d) = refl
-  char-mapped t = refl
-
-  renamed-mapped : (x : N) (t : Token N) → renamed (g x) (mapped_token g t) ≡ mapped_token g (renamed x t)
-  renamed-mapped x (doctype a b c d) = refl
-  renamed-mapped x t = refl
-
-  doctype-mapped : (t : Token N) → doctype_node (mapped_token g t) ≡ mapped_what g (doctype_node t)
-  doctype-mapped (doctype a b c d) = refl
-  doctype-mapped t = refl
-
-  conforms-mapped : (t : Token N) → conforms (mapped_token g t) ≡ conforms t
-  conforms-mapped (doctype a b c d) = refl
-  conforms-mapped t = refl
-
-  quirks-mapped : (s : State N) (t : Token N) → forces_quirks (mapped_state g s) (mapped_token g t) ≡ forces_quirks s t
-  quirks-mapped s (doctype a b c d) = refl
-  quirks-mapped s t = refl
+  token-mapped : (t : Token N) → Holds t
+  token-mapped (doctype a b c d) =
+      record { attrs = refl; text = refl; char = refl; node = refl; conforms_is = refl; quirks = λ s. refl; other_name = λ x. refl; closing = refl; dropped = λ s. refl }
+  token-mapped _ =
+      record { attrs = refl; text = refl; char = refl; node = refl; conforms_is = refl; quirks = λ s. refl; other_name = λ x. refl; closing = refl; dropped = λ s. refl }
 
 module _ {N M : Type 0} (m : Naming N) (n : Naming M) (g : N → M) (a : Agree m n g) where
   stack-words : StackKnowsNoNames m.tag n.tag m.same n.same g
@@ -124,8 +114,8 @@ module _ {N M : Type 0} (m : Naming N) (n : Naming M) (g : N → M) (a : Agree m
   answer-mapped t form_is_set s = refl
   answer-mapped t is_in_quirks s = refl
   answer-mapped t is_fragment s = is_some-option_map g s.context
-  answer-mapped t doctype_conforms s = conforms-mapped g t
-  answer-mapped t input_is_hidden s = ap (list_any (is_hidden n)) (attrs-mapped g t) ∙ any-map (mapped_attribute g) (is_hidden m) (is_hidden n) (λ x i. hidden x i && str_eq_ignore_ascii_case x.1 (codes "hidden")) (token_attrs t)
+  answer-mapped t doctype_conforms s = (token-mapped g t).conforms_is
+  answer-mapped t input_is_hidden s = ap (list_any (is_hidden n)) ((token-mapped g t).attrs) ∙ any-map (mapped_attribute g) (is_hidden m) (is_hidden n) (λ x i. hidden x i && str_eq_ignore_ascii_case x.1 (codes "hidden")) (token_attrs t)
     where
       hidden : (x : Attribute N) → n.same (g x.0) n.type_attribute ≡ m.same x.0 m.type_attribute
       hidden x = ap (n.same (g x.0)) a.type_attribute ∙ a.spelling.names x.0 m.type_attribute
@@ -148,7 +138,7 @@ module _ {N M : Type 0} (m : Naming N) (n : Naming M) (g : N → M) (a : Agree m
 
   completed-mapped : (k : ℕ) (t : Token N) (x : SiteOf N) → completed n (from_top k (mapped_site g x)) (token_attrs (mapped_token g t)) (mapped_site g x) ≡ mapped_site g (completed m (from_top k x) (token_attrs t) x)
   completed-mapped k t x =
-      (λ i. with_trees (with_missing n (where_it i) (attrs-mapped g t i) (mapped g (trees x))) (mapped_site g x))
+      (λ i. with_trees (with_missing n (where_it i) ((token-mapped g t).attrs i) (mapped g (trees x))) (mapped_site g x))
       ∙ (λ i. with_trees (missing-mapped (open_node (from_top k x)) (token_attrs t) (trees x) i) (mapped_site g x))
     where
       where_it : open_node (from_top k (mapped_site g x)) ≡ open_node (from_top k x)
@@ -163,11 +153,8 @@ module _ {N M : Type 0} (m : Naming N) (n : Naming M) (g : N → M) (a : Agree m
 
   listed-mapped : (t : Token N) (x : SiteOf N) → listed n (token_name n (mapped_token g t)) (token_attrs (mapped_token g t)) (mapped_site g x) ≡ mapped_site g (listed m (token_name m t) (token_attrs t) x)
   listed-mapped t x =
-      (λ i. with_items (pushed n.same (record { node = current-mapped x i; name = name-mapped t i; attrs = attrs-mapped g t i }) (mapped_items g x.items)) (mapped_site g x))
+      (λ i. with_items (pushed n.same (record { node = current-mapped x i; name = name-mapped t i; attrs = (token-mapped g t).attrs i }) (mapped_items g x.items)) (mapped_site g x))
       ∙ (λ i. with_items (list-words.push (record { node = current_node x; name = token_name m t; attrs = token_attrs t }) x.items i) (mapped_site g x))
-
-  forgotten-mapped : (k : ℕ) (x : SiteOf N) → forgotten k (mapped_site g x) ≡ mapped_site g (forgotten k x)
-  forgotten-mapped k x = λ i. with_items (list-words.remove k x.items i) (removed-mapped (Some k) x i)
 
   adopted_listed-mapped : (at : ℕ) (name : N) (x : SiteOf N) → adopted_listed n at (g name) (mapped_site g x) ≡ outcome_map (mapped_site g) (adopted_listed m at name x)
   adopted_listed-mapped at name x =
@@ -176,7 +163,7 @@ module _ {N M : Type 0} (m : Naming N) (n : Naming M) (g : N → M) (a : Agree m
     where
       go : (o : Option (EntryOf N)) (y : SiteOf N) → option_map_or (λ e. forgotten e.node (mapped_site g y)) (option_map (mapped_entry g) o) (mapped_site g y) ≡ mapped_site g (option_map_or (λ e. forgotten e.node y) o y)
       go None y = refl
-      go (Some e) y = forgotten-mapped e.node y
+      go (Some e) y = λ i. with_items (list-words.remove e.node y.items i) (removed-mapped (Some e.node) y i)
 
   head-mapped : (at : ℕ) (node : Option ℕ) (x : SiteOf N) → head_pushed n at node (mapped_site g x) ≡ outcome_map (mapped_site g) (head_pushed m at node x)
   head-mapped at None x = refl
@@ -195,21 +182,21 @@ module _ {N M : Type 0} (m : Naming N) (n : Naming M) (g : N → M) (a : Agree m
   perform-mapped (fostered p) at t s = ap (flow_map (with_foster false)) (perform-mapped p at t (with_foster true s)) ∙ unfoster-mapped g (perform m at t p (with_foster true s))
   perform-mapped (each_pending p) at t s = each-mapped g (λ c. perform m c.at (character c.ch) p) (λ c. perform n c.at (character c.ch) p) (λ c v. perform-mapped p c.at (character c.ch) v) s.control.pending (with_control (record s.control { pending = [] }) s)
   perform-mapped again at t s = refl
-  perform-mapped (again_as x) at t s = λ i. Again ((ap (λ y. renamed y (mapped_token g t)) (a.known x) ∙ renamed-mapped g (m.known x) t) i) (mapped_state g s)
+  perform-mapped (again_as x) at t s = λ i. Again ((ap (λ y. renamed y (mapped_token g t)) (a.known x) ∙ (token-mapped g t).other_name (m.known x)) i) (mapped_state g s)
   perform-mapped reset at t s = λ i. Done (with_control (record s.control { mode = reset-mapped s.context (stack s.site) i }) (mapped_state g s))
   perform-mapped head_pointer at t s = λ i. Done (with_control (record s.control { head = Some (current-mapped s.site i) }) (mapped_state g s))
   perform-mapped form_pointer at t s = λ i. Done (with_control (record s.control { form = Some (current-mapped s.site i) }) (mapped_state g s))
-  perform-mapped judge_quirks at t s = λ i. Done (with_control (record s.control { quirks = quirks-mapped g s t i }) (mapped_state g s))
-  perform-mapped pend at t s = λ i. Done (with_control (record s.control { pending = s.control.pending ++ record { ch = char-mapped g t i; at = at } ∷ [] }) (mapped_state g s))
-  perform-mapped insert at t s = (λ i. flow_of (mapped_state g s) (inserted_here n at (name-mapped t i) (attrs-mapped g t i) (mapped_site g s.site))) ∙ here-mapped at (token_name m t) (token_attrs t) s
+  perform-mapped judge_quirks at t s = λ i. Done (with_control (record s.control { quirks = (token-mapped g t).quirks s i }) (mapped_state g s))
+  perform-mapped pend at t s = λ i. Done (with_control (record s.control { pending = s.control.pending ++ record { ch = (token-mapped g t).char i; at = at } ∷ [] }) (mapped_state g s))
+  perform-mapped insert at t s = (λ i. flow_of (mapped_state g s) (inserted_here n at (name-mapped t i) ((token-mapped g t).attrs i) (mapped_site g s.site))) ∙ here-mapped at (token_name m t) (token_attrs t) s
   perform-mapped (insert_named x) at t s = (λ i. flow_of (mapped_state g s) (inserted_here n at (a.known x i) [] (mapped_site g s.site))) ∙ here-mapped at (m.known x) [] s
-  perform-mapped insert_root at t s = (λ i. flow_of (mapped_state g s) (inserted at (name-mapped t i) (attrs-mapped g t i) (LastIn 0) (mapped_site g s.site))) ∙ ap (flow_of (mapped_state g s)) (site_names.inserted-map g at (token_name m t) (token_attrs t) (LastIn 0) s.site) ∙ flow-mapped g s (inserted at (token_name m t) (token_attrs t) (LastIn 0) s.site)
+  perform-mapped insert_root at t s = (λ i. flow_of (mapped_state g s) (inserted at (name-mapped t i) ((token-mapped g t).attrs i) (LastIn 0) (mapped_site g s.site))) ∙ ap (flow_of (mapped_state g s)) (site_names.inserted-map g at (token_name m t) (token_attrs t) (LastIn 0) s.site) ∙ flow-mapped g s (inserted at (token_name m t) (token_attrs t) (LastIn 0) s.site)
   perform-mapped (insert_root_named x) at t s = (λ i. flow_of (mapped_state g s) (inserted at (a.known x i) [] (LastIn 0) (mapped_site g s.site))) ∙ ap (flow_of (mapped_state g s)) (site_names.inserted-map g at (m.known x) [] (LastIn 0) s.site) ∙ flow-mapped g s (inserted at (m.known x) [] (LastIn 0) s.site)
-  perform-mapped insert_comment at t s = (λ i. flow_of (mapped_state g s) (added at (forest.comment (text-mapped g t i)) (LastIn (current-mapped s.site i)) (mapped_site g s.site))) ∙ ap (flow_of (mapped_state g s)) (site_names.added-map g at (forest.comment (token_text t)) (LastIn (current_node s.site)) s.site) ∙ flow-mapped g s (added at (forest.comment (token_text t)) (LastIn (current_node s.site)) s.site)
-  perform-mapped comment_in_document at t s = (λ i. flow_of (mapped_state g s) (added at (forest.comment (text-mapped g t i)) (LastIn 0) (mapped_site g s.site))) ∙ ap (flow_of (mapped_state g s)) (site_names.added-map g at (forest.comment (token_text t)) (LastIn 0) s.site) ∙ flow-mapped g s (added at (forest.comment (token_text t)) (LastIn 0) s.site)
-  perform-mapped comment_in_first at t s = (λ i. flow_of (mapped_state g s) (added at (forest.comment (text-mapped g t i)) (LastIn ((ap (λ (o : Option (OpenNode M)). open_node o) (top-mapped 0 s.site) ∙ site_names.node_of-map g (from_top 0 s.site)) i)) (mapped_site g s.site))) ∙ ap (flow_of (mapped_state g s)) (site_names.added-map g at (forest.comment (token_text t)) (LastIn (open_node (from_top 0 s.site))) s.site) ∙ flow-mapped g s (added at (forest.comment (token_text t)) (LastIn (open_node (from_top 0 s.site))) s.site)
-  perform-mapped insert_doctype at t s = (λ i. flow_of (mapped_state g s) (added at (doctype-mapped g t i) (LastIn 0) (mapped_site g s.site))) ∙ ap (flow_of (mapped_state g s)) (site_names.added-map g at (doctype_node t) (LastIn 0) s.site) ∙ flow-mapped g s (added at (doctype_node t) (LastIn 0) s.site)
-  perform-mapped put at t s = (λ i. flow_of (mapped_state g s) (inserts.put at (char-mapped g t i) (site_names.place-map m n g a s.site i) (mapped_site g s.site))) ∙ ap (flow_of (mapped_state g s)) (site_names.put-map g at (token_char t) (place m s.site) s.site) ∙ flow-mapped g s (inserts.put at (token_char t) (place m s.site) s.site)
+  perform-mapped insert_comment at t s = (λ i. flow_of (mapped_state g s) (added at (forest.comment ((token-mapped g t).text i)) (LastIn (current-mapped s.site i)) (mapped_site g s.site))) ∙ ap (flow_of (mapped_state g s)) (site_names.added-map g at (forest.comment (token_text t)) (LastIn (current_node s.site)) s.site) ∙ flow-mapped g s (added at (forest.comment (token_text t)) (LastIn (current_node s.site)) s.site)
+  perform-mapped comment_in_document at t s = (λ i. flow_of (mapped_state g s) (added at (forest.comment ((token-mapped g t).text i)) (LastIn 0) (mapped_site g s.site))) ∙ ap (flow_of (mapped_state g s)) (site_names.added-map g at (forest.comment (token_text t)) (LastIn 0) s.site) ∙ flow-mapped g s (added at (forest.comment (token_text t)) (LastIn 0) s.site)
+  perform-mapped comment_in_first at t s = (λ i. flow_of (mapped_state g s) (added at (forest.comment ((token-mapped g t).text i)) (LastIn ((ap (λ (o : Option (OpenNode M)). open_node o) (top-mapped 0 s.site) ∙ site_names.node_of-map g (from_top 0 s.site)) i)) (mapped_site g s.site))) ∙ ap (flow_of (mapped_state g s)) (site_names.added-map g at (forest.comment (token_text t)) (LastIn (open_node (from_top 0 s.site))) s.site) ∙ flow-mapped g s (added at (forest.comment (token_text t)) (LastIn (open_node (from_top 0 s.site))) s.site)
+  perform-mapped insert_doctype at t s = (λ i. flow_of (mapped_state g s) (added at ((token-mapped g t).node i) (LastIn 0) (mapped_site g s.site))) ∙ ap (flow_of (mapped_state g s)) (site_names.added-map g at (doctype_node t) (LastIn 0) s.site) ∙ flow-mapped g s (added at (doctype_node t) (LastIn 0) s.site)
+  perform-mapped put at t s = (λ i. flow_of (mapped_state g s) (inserts.put at ((token-mapped g t).char i) (site_names.place-map m n g a s.site i) (mapped_site g s.site))) ∙ ap (flow_of (mapped_state g s)) (site_names.put-map g at (token_char t) (place m s.site) s.site) ∙ flow-mapped g s (inserts.put at (token_char t) (place m s.site) s.site)
   perform-mapped add_missing_to_first at t s = λ i. Done (with_site (completed-mapped 0 t s.site i) (mapped_state g s))
   perform-mapped add_missing_to_second at t s = λ i. Done (with_site (completed-mapped 1 t s.site i) (mapped_state g s))
   perform-mapped pop at t s = λ i. Done (with_site (with_stack (stack-words.pop (stack s.site) i) (mapped_site g s.site)) (mapped_state g s))
@@ -238,24 +225,16 @@ module _ {N M : Type 0} (m : Naming N) (n : Naming M) (g : N → M) (a : Agree m
   rule-mapped at t s = ap (λ k. perform n at (mapped_token g t) (rule_of s.control.mode k) (mapped_state g s)) (kind-mapped t) ∙ perform-mapped (rule_of s.control.mode (kind_of m t)) at t s
 
   finished-mapped : (at : ℕ) (t : Token N) (s : State N) → finished at (mapped_token g t) (mapped_state g s) ≡ mapped_state g (finished at t s)
-  finished-mapped at t s = ap (λ v. cond (v && not s.control.acknowledged) (with_site (site.with_error code.NonVoidHtmlElementStartTagWithTrailingSolidus at (mapped_site g s.site)) (mapped_state g s)) (mapped_state g s)) (closing t) ∙ cond-map (mapped_state g) (is_self_closing t && not s.control.acknowledged) (with_site (site.with_error code.NonVoidHtmlElementStartTagWithTrailingSolidus at s.site) s) s
-    where
-      closing : (t : Token N) → is_self_closing (mapped_token g t) ≡ is_self_closing t
-      closing (doctype b c d e) = refl
-      closing t = refl
+  finished-mapped at t s = ap (λ v. cond (v && not s.control.acknowledged) (with_site (site.with_error code.NonVoidHtmlElementStartTagWithTrailingSolidus at (mapped_site g s.site)) (mapped_state g s)) (mapped_state g s)) (token-mapped g t).closing ∙ cond-map (mapped_state g) (is_self_closing t && not s.control.acknowledged) (with_site (site.with_error code.NonVoidHtmlElementStartTagWithTrailingSolidus at s.site) s) s
 
   chain-mapped : (at : ℕ) (t : Token N) (s : State N) (o : Outcome (State N)) → Chain m at t s o → Chain n at (mapped_token g t) (mapped_state g s) (outcome_map (mapped_state g) o)
   chain-mapped at t s o (ends {s' = s'} rule) = subst (λ (x : State M). Chain n at (mapped_token g t) (mapped_state g s) (Goes x)) (finished-mapped at t s') (ends (rule-mapped at t s ∙ ap (mapped_flow g) rule))
   chain-mapped at t s o (refuses rule) = refuses (rule-mapped at t s ∙ ap (mapped_flow g) rule)
   chain-mapped at t s o (goes_again {t' = t'} {s' = s'} rule rest) = goes_again (rule-mapped at t s ∙ ap (mapped_flow g) rule) (chain-mapped at t' s' o rest)
 
-  dropped-mapped : (t : Token N) (s : State N) → is_dropped (mapped_token g t) (mapped_state g s) ≡ is_dropped t s
-  dropped-mapped (doctype b c d e) s = refl
-  dropped-mapped t s = refl
-
   step-mapped : (at : ℕ) (t : Token N) (s : State N) (o : Outcome (State N)) → Step m at t s o → Step n at (mapped_token g t) (mapped_state g s) (outcome_map (mapped_state g) o)
-  step-mapped at t s o (drops is) = drops (dropped-mapped t s ∙ is)
-  step-mapped at t s o (goes not_so chain) = goes (dropped-mapped t s ∙ not_so) (chain-mapped at t (step_begun s) o chain)
+  step-mapped at t s o (drops is) = drops ((token-mapped g t).dropped s ∙ is)
+  step-mapped at t s o (goes not_so chain) = goes ((token-mapped g t).dropped s ∙ not_so) (chain-mapped at t (step_begun s) o chain)
 
   steps-mapped : (ts : List (PlacedToken N)) (s : State N) (o : Outcome (State N)) → Steps m ts s o → Steps n (map (mapped_placed g) ts) (mapped_state g s) (outcome_map (mapped_state g) o)
   steps-mapped ts s o none = none

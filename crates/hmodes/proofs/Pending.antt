@@ -39,12 +39,6 @@ module _ (b : Building) (free : b.refused ≡ None) (pends : pends_each b.state 
   one_pended p some =
       taken_by_rule b free takes p.at p.ch some (Ok tt) (pended (p ∷ []) (step_begun b.state)) (ap (λ (m : Mode). perform numbers p.at (character p.ch) (char_rule m) (step_begun b.state)) kept.1)
 
-  one_wrong : (p : Placed) → (p.ch == 0) ≡ false → (t : State ℕ) (e : Refusal) → e ≡ Memory → TakesToken b (Alone (code.Char p.ch p.at)) (Err e) (after b t (Some e))
-  one_wrong p some t e m = taken_by_rule b free takes p.at p.ch some (Err e) t (inl m)
-
-  keeps_on : (p : Placed) → pends_each (pended (p ∷ []) (step_begun b.state)) ≡ true
-  keeps_on p = ap keeps kept.1
-
 all_pended : (b : Building) → b.refused ≡ None → pends_each b.state ≡ true → (p : Placed) (ps : List Placed) → AreSome (characters (p ∷ ps))
     → Hands TakesToken b (run_tokens (p ∷ ps)) (Ok tt) (after b (pended (p ∷ ps) (step_begun b.state)) None)
 all_pended b free pends p [] some = (Ok tt, after b (pended (p ∷ []) (step_begun b.state)) None, one_pended b free pends p some.0, (refl, refl))
@@ -55,7 +49,7 @@ all_pended b free pends p (q ∷ qs) some =
       mid,
       one_pended b free pends p some.0,
       subst (λ (l : List Placed). Hands TakesToken mid (run_tokens (q ∷ qs)) (Ok tt) (after b (with_control (record begun.control { pending = l }) begun) None))
-          (append_assoc b.state.control.pending (p ∷ []) (q ∷ qs)) (all_pended mid refl (keeps_on b free pends p) q qs some.1),
+          (append_assoc b.state.control.pending (p ∷ []) (q ∷ qs)) (all_pended mid refl (ap keeps (kept b free pends).1) q qs some.1),
     )
 
 -- the whole run
@@ -65,12 +59,7 @@ run_pended b free pends at [] has some answer t ok wrong = absurd (false≢true 
 run_pended b free pends at (c ∷ cs) has some (Ok u) t ok wrong =
     subst (λ (s : State ℕ). Hands TakesToken b (run_tokens (placed at (c ∷ cs))) (Ok tt) (after b s None)) (sym ok)
     (all_pended b free pends (record { ch = c; at = at }) (placed (at + len_utf8 c) cs) (subst AreSome (sym (characters_placed at (c ∷ cs))) some))
-run_pended b free pends at (c ∷ cs) has some (Err e) t ok wrong = (Err e, after b t (Some e), one_wrong b free pends (record { ch = c; at = at }) some.0 t e wrong, (refl, refl))
-
--- the state that they are kept in is that of the building
-pub pended-of : (b old : Building) (s t : State ℕ) (ps : List Placed) (answer : Result (Unit {0}) Refusal) → old ≡ b → s ≡ step_begun old.state → OnOk answer (t ≡ pended ps s)
-    → OnOk answer (t ≡ pended ps (step_begun b.state))
-pended-of b old s t ps answer is begins g = subst (λ (w : State ℕ). OnOk answer (t ≡ pended ps w)) (begins ∙ ap (λ (o : Building). step_begun o.state) is) g
+run_pended b free pends at (c ∷ cs) has some (Err e) t ok wrong = (Err e, after b t (Some e), taken_by_rule b free (takes b free pends) at c some.0 (Err e) t (inl wrong), (refl, refl))
 
 -- one character of a run more
 pub pushed : (pending : List Placed) (at place next : ℕ) (rest more : List ℕ) (c : ℕ) → IsUtf8 rest → rest ≡ encode_utf8 c ++ more → place ≡ at → next ≡ at + len_utf8 c

@@ -1,5 +1,5 @@
 -- A start tag of a raw kind leads to the mode "text", by a test on the programs of each mode.
-use Rattle.hmodes.proofs.Vocabulary.{cond_both, ◌≡◌, ◌≢◌, ◌⊎◌, inl, inr, ℕ, ◌<◌, Bool, true, false, not, leb, List, ◌∷◌, Option, Some, None, refl, sym, ◌∙◌, ap, subst, arith, length, ◌&&◌, ◌||◌, IfSome, ne_eqb, Attribute, OpenNode, current, TooDeep, Tag, Naming, Outcome, Goes, SiteOf, stack, with_stack, with_error, OnGoes, Family, Mode, AfterHead, Text, InTableText, family_of, Do, Start, Char, ◌▸◌, choose, fostered, each_pending, again, TokenKind, to, to_saved, save_mode, insert, put, drop_lf, push_head, remove_head, pending_is_ws, raw, after_head, late, perform, with_foster, with_site, inserted_here, flow_of, head_pushed, removed, rule_of, mode_error, NonVoidHtmlElementStartTagWithTrailingSolidus, Token, start, Control, State, Flow, Done, Again, Refused, flow_then, flow_map, Rule, Chain, ends, refuses, goes_again, drops, goes, step_begun, finished, is_ended, IsLimit, Inserts, at_once, in_first, in_second, in_fostered, RulesInsert, by_rule, by_next, IsInText, ComesToText, RawFollows, Place, place, inserted, in_table_text, other_in_table}
+use Rattle.hmodes.proofs.Vocabulary.{cond_both, ◌≡◌, ◌≢◌, ◌⊎◌, inl, inr, ℕ, ◌<◌, Bool, true, false, not, leb, List, ◌∷◌, Option, Some, None, refl, sym, ◌∙◌, ap, subst, arith, length, ◌&&◌, ◌||◌, IfSome, ne_eqb, Attribute, OpenNode, current, TooDeep, Tag, Naming, Outcome, Goes, SiteOf, stack, with_stack, with_error, OnGoes, Family, Mode, AfterHead, Text, InTableText, family_of, Do, Start, Char, ◌▸◌, choose, fostered, each_pending, again, TokenKind, to, to_saved, save_mode, insert, put, drop_lf, push_head, remove_head, pending_is_ws, raw, after_head, late, perform, with_foster, with_site, inserted_here, flow_of, head_pushed, removed, rule_of, mode_error, NonVoidHtmlElementStartTagWithTrailingSolidus, Token, start, Control, State, Flow, Done, Again, Refused, flow_then, flow_map, Rule, Chain, ends, refuses, goes_again, drops, goes, step_begun, finished, is_ended, IsLimit, Inserts, at_once, in_first, in_second, in_fostered, RulesInsert, by_rule, by_next, IsInText, ComesToText, RawFollows, place, in_table_text, other_in_table}
 use Rattle.hadopt.proofs.Climbing.{inserted-goes}
 use Rattle.names.specs.Sets.{raw_kind}
 use Rattle.names.specs.declared.tag.Tag.TheVariants as tag
@@ -10,27 +10,20 @@ use Rattle.hmodes.proofs.Facts.{is_texty}
 use Rattle.hmodes.proofs.Between.{Tells, Orderly, orderly-head, orderly-begins, again-orderly, reached-orderly}
 use Rattle.hmodes.proofs.Every.{never, both, other, in-each, by_outcome}
 
--- the programs that insert an element and go to text, at once or after others, or have the token go by rules outside of text
-
-abbrev is_raw : Do → Bool
-is_raw (insert ▸ (save_mode ▸ to Text)) = true
-is_raw _ = false
-
-abbrev keeps_text : Do → Bool
-keeps_text drop_lf = true
-keeps_text _ = false
-
 abbrev is_outside : Mode → Bool
 is_outside Text = false
 is_outside InTableText = false
 is_outside _ = true
 
-abbrev goes_outside : Do → Do → Bool
-goes_outside (to m) again = is_outside m
-goes_outside _ _ = false
+-- the programs that insert an element and go to text, at once or after others, or have the token go by rules outside of text
+abbrev is_end : Do → Do → Bool
+is_end insert (save_mode ▸ to Text) = true
+is_end (insert ▸ (save_mode ▸ to Text)) drop_lf = true
+is_end (to m) again = is_outside m
+is_end _ _ = false
 
 abbrev leads : Do → Bool
-leads (p ▸ q) = is_raw (p ▸ q) || ((is_raw p && keeps_text q) || (goes_outside p q || (is_mild p && leads q)))
+leads (p ▸ q) = is_end p q || (is_mild p && leads q)
 leads (fostered p) = leads p
 leads _ = false
 
@@ -58,36 +51,12 @@ abbrev ruled : Mode → TokenKind → Bool
 ruled m (Start f) = not (is_ruled m && is_raw_family f) || leads (rule_of m (Start f))
 ruled m k = true
 
-ruled-leads : (m : Mode) (k : TokenKind) → ruled m k ≡ true
-ruled-leads = in-each ruled refl
-
-raw-is : (p : Do) → is_raw p ≡ true → p ≡ raw
-raw-is (insert ▸ (save_mode ▸ to Text)) e = refl
-raw-is _ e = never e
-
-drop-is : (q : Do) → keeps_text q ≡ true → q ≡ drop_lf
-drop-is drop_lf e = refl
-drop-is _ e = never e
-
-pub record GoesOutside (p q : Do) : Type 0 where
-  pub mode : Mode
-  pub first : p ≡ to mode
-  pub then : q ≡ again
-  pub outside : is_outside mode ≡ true
-
-goes-is : (p q : Do) → goes_outside p q ≡ true → GoesOutside p q
-goes-is (to m) again e = record { mode = m; first = refl; then = refl; outside = e }
-goes-is _ _ e = never e
-
 either : (x y : Bool) → (x || y) ≡ true → (x ≡ true) ⊎ (y ≡ true)
 either true y e = inl refl
 either false y e = inr e
 
-not-text : (m : Mode) → is_outside m ≡ true → m ≢ Text
-not-text m e is = let clash = sym e ∙ ap is_outside is in cc
-
-not-table : (m : Mode) → is_outside m ≡ true → m ≢ InTableText
-not-table m e is = let clash = sym e ∙ ap is_outside is in cc
+not-outside : (m inner : Mode) → is_outside m ≡ true → is_outside inner ≡ false → m ≢ inner
+not-outside m inner e isnt is = let clash = sym e ∙ ap is_outside is ∙ isnt in cc
 
 -- no raw text is being read, and none waits behind the text of a table
 record IsOutsideText (c : Control) : Type 0 where
@@ -97,9 +66,6 @@ record IsOutsideText (c : Control) : Type 0 where
 module _ {N : Type 0} (n : Naming N) (at : ℕ) (name : N) (attrs : List (Attribute N)) (closing : Bool) where
   abbrev tag_token : Token N
   tag_token = start name attrs closing
-
-  abbrev Way : Do → State N → State N → Type 0
-  Way p s v = Inserts n at tag_token p s v
 
   abbrev Ways : State N → State N → Type 0
   Ways s v = RulesInsert n at tag_token s v
@@ -112,10 +78,10 @@ module _ {N : Type 0} (n : Naming N) (at : ℕ) (name : N) (attrs : List (Attrib
 
   -- of a program that is on that way
   abbrev LeadsBy : State N → Do → State N → Type 0
-  LeadsBy s0 p s = ((v : State N) → Way p s v → Ways s0 v) → Leads s0 (perform n at tag_token p s)
+  LeadsBy s0 p s = ((v : State N) → Inserts n at tag_token p s v → Ways s0 v) → Leads s0 (perform n at tag_token p s)
 
   after-mild : (s0 s : State N) (f : Flow N) (g : State N → Flow N) → Mild s f → ((v : State N) → f ≡ Done v → v.control.saved ≡ s.control.saved → Leads s0 (g v)) → Leads s0 (flow_then f g)
-  after-mild s0 s (Done v) g m h = h v refl m
+  after-mild s0 s (Done v) g m h = h v refl m.0
   after-mild s0 s (Again t v) g m h = absurd m
   after-mild s0 s (Refused r) g m h = m
 
@@ -135,41 +101,23 @@ module _ {N : Type 0} (n : Naming N) (at : ℕ) (name : N) (attrs : List (Attrib
       go (Again t v) h = h
       go (Refused r) h = h
 
-  goes-leads : (m : Mode) → is_outside m ≡ true → (s0 s : State N) → LeadsBy s0 (to m ▸ again) s
-  goes-leads m out s0 s on_way = (refl, record { mode = not-text m out; saved = λ e. absurd (not-table m out e) })
+  end-leads : (p q : Do) → is_end p q ≡ true → (s0 s : State N) → LeadsBy s0 (p ▸ q) s
+  end-leads insert (save_mode ▸ to Text) e = raw-leads
+  end-leads (insert ▸ (save_mode ▸ to Text)) drop_lf e = raw-drops
+  end-leads (to m) again e = λ s0 s on_way. (refl, record { mode = not-outside m Text e refl; saved = λ i. absurd (not-outside m InTableText e refl i) })
+  end-leads _ _ e = never e
 
   -- one after another, where what comes after leads
-  then-leads : (p q : Do) (s0 s : State N) → leads (p ▸ q) ≡ true → (leads q ≡ true → (v : State N) → LeadsBy s0 q v) → LeadsBy s0 (p ▸ q) s
-  then-leads p q s0 s e more = go (either (is_raw (p ▸ q)) ((is_raw p && keeps_text q) || (goes_outside p q || (is_mild p && leads q))) e)
-    where
-      third : (goes_outside p q ≡ true) ⊎ ((is_mild p && leads q) ≡ true) → LeadsBy s0 (p ▸ q) s
-      third (inl h) =
-          let g = goes-is p q h in
-          subst (λ (x : Do). LeadsBy s0 (x ▸ q) s) (sym g.first)
-          (subst (λ (y : Do). LeadsBy s0 (to g.mode ▸ y) s) (sym g.then) (goes-leads g.mode g.outside s0 s))
-      third (inr h) = λ on_way.
-          let parts = both (is_mild p) (leads q) h in
-          after-mild s0 s (perform n at tag_token p s) (perform n at tag_token q) (perform-mild n p parts.0 at tag_token s) (λ v is same. more parts.1 v (λ u w. on_way u (in_second is w)))
-
-      second : ((is_raw p && keeps_text q) ≡ true) ⊎ ((goes_outside p q || (is_mild p && leads q)) ≡ true) → LeadsBy s0 (p ▸ q) s
-      second (inl h) =
-          let parts = both (is_raw p) (keeps_text q) h in
-          subst (λ (x : Do). LeadsBy s0 (x ▸ q) s) (sym (raw-is p parts.0))
-          (subst (λ (y : Do). LeadsBy s0 (raw ▸ y) s) (sym (drop-is q parts.1)) (raw-drops s0 s))
-      second (inr h) = third (either (goes_outside p q) (is_mild p && leads q) h)
-
-      go : (is_raw (p ▸ q) ≡ true) ⊎ (((is_raw p && keeps_text q) || (goes_outside p q || (is_mild p && leads q))) ≡ true) → LeadsBy s0 (p ▸ q) s
-      go (inl h) = subst (λ (x : Do). LeadsBy s0 x s) (sym (raw-is (p ▸ q) h)) (raw-leads s0 s)
-      go (inr h) = second (either (is_raw p && keeps_text q) (goes_outside p q || (is_mild p && leads q)) h)
+  then-leads : (p q : Do) (s0 s : State N) → (is_end p q ≡ true) ⊎ ((is_mild p && leads q) ≡ true) → (leads q ≡ true → (v : State N) → LeadsBy s0 q v) → LeadsBy s0 (p ▸ q) s
+  then-leads p q s0 s (inl e) more = end-leads p q e s0 s
+  then-leads p q s0 s (inr e) more = λ on_way.
+      let parts = both (is_mild p) (leads q) e in
+      after-mild s0 s (perform n at tag_token p s) (perform n at tag_token q) (perform-mild n p parts.0 at tag_token s) (λ v is same. more parts.1 v (λ u w. on_way u (in_second is w)))
 
   perform-leads : (p : Do) → leads p ≡ true → (s0 s : State N) → LeadsBy s0 p s
-  perform-leads (p ▸ q) e s0 s = then-leads p q s0 s e (λ h v. perform-leads q h s0 v)
+  perform-leads (p ▸ q) e s0 s = then-leads p q s0 s (either (is_end p q) (is_mild p && leads q) e) (λ h v. perform-leads q h s0 v)
   perform-leads (fostered p) e s0 s = λ on_way. foster-off s0 (perform n at tag_token p (with_foster true s)) (perform-leads p e s0 (with_foster true s) (λ v w. on_way v (in_fostered w)))
   perform-leads _ e s0 s = never e
-
-  -- what an insertion leaves on the stack
-  inserted-top : (p : Place) (x : SiteOf N) → OnGoes (λ y. stack y ≡ record { node = x.nodes.made; name = name } ∷ stack x) (inserted at name attrs p x)
-  inserted-top p x = inserted-goes (λ y. stack y ≡ record { node = x.nodes.made; name = name } ∷ stack x) at name attrs p x refl
 
   -- the head leaves the open nodes, and is not the one that was made after it
   head-leaves : (head : Option ℕ) (made : ℕ) (up : List (OpenNode N)) (y : SiteOf N) → ((h : ℕ) → head ≡ Some h → h < made) → stack y ≡ record { node = made; name = name } ∷ up
@@ -178,7 +126,7 @@ module _ {N : Type 0} (n : Naming N) (at : ℕ) (name : N) (attrs : List (Attrib
   head-leaves (Some h) made up y below top = rw (top, ne_eqb made h (λ e. let less = below h refl in omega (arith, less, e))) refl
 
   late-inserted : (s0 v : State N) → ((h : ℕ) → v.control.head ≡ Some h → h < v.site.nodes.made) → LeadsBy s0 (raw ▸ remove_head) v
-  late-inserted s0 v below on_way = go (inserted_here n at name attrs v.site) refl (inserted-top (place n v.site) v.site) (perform-mild n insert refl at tag_token v)
+  late-inserted s0 v below on_way = go (inserted_here n at name attrs v.site) refl (inserted-goes (λ y. stack y ≡ record { node = v.site.nodes.made; name = name } ∷ stack v.site) at name attrs (place n v.site) v.site refl) (perform-mild n insert refl at tag_token v)
     where
       go : (o : Outcome (SiteOf N)) → inserted_here n at name attrs v.site ≡ o → OnGoes (λ y. stack y ≡ record { node = v.site.nodes.made; name = name } ∷ stack v.site) o → Mild v (flow_of v o)
           → Leads s0 (flow_then (flow_then (flow_of v o) (perform n at tag_token (save_mode ▸ to Text))) (perform n at tag_token remove_head))
@@ -235,7 +183,7 @@ module _ {N : Type 0} (n : Naming N) (at : ℕ) (name : N) (attrs : List (Attrib
       by_rules m e =
           let f : Family = family_of (n.tag name) in
           let so : (is_ruled m && is_raw_family f) ≡ true = rw (e, family_is) refl in
-          perform-leads (rule_of m (Start f)) (other (not (is_ruled m && is_raw_family f)) (leads (rule_of m (Start f))) (ruled-leads m (Start f)) (ap not so)) s0 s
+          perform-leads (rule_of m (Start f)) (other (not (is_ruled m && is_raw_family f)) (leads (rule_of m (Start f))) (in-each ruled refl m (Start f)) (ap not so)) s0 s
 
       by_mode : (m : Mode) → s.control.mode ≡ m → LeadsBy s0 (rule_of m (Start (family_of (n.tag name)))) s
       by_mode Text is = absurd (out.mode is)
@@ -247,16 +195,12 @@ module _ {N : Type 0} (n : Naming N) (tells : Tells n) (at : ℕ) (name : N) (at
   finished-text : (s0 s : State N) → IsInText n at name attrs closing s0 s → IsInText n at name attrs closing s0 (finished at (start name attrs closing) s)
   finished-text s0 s h = cond_both (closing && not s.control.acknowledged) (with_site (with_error NonVoidHtmlElementStartTagWithTrailingSolidus at s.site) s) s (IsInText n at name attrs closing s0) (λ _. record { before = h.before; way = h.way; after = h.after; insertion = h.insertion; nodes_are = h.nodes_are; current_is = h.current_is; mode_is = h.mode_is }) (λ _. h)
 
-  -- the head pointer's node was made
-  head-below : (s : State N) → Orderly n s → s.control.mode ≡ AfterHead → (h : ℕ) → s.control.head ≡ Some h → h < s.site.nodes.made
-  head-below s g is h e = (subst (λ (p : Option ℕ). IfSome p (λ k. (0 < k) × (k < s.site.nodes.made))) e (orderly-head n s g is)).1
-
   -- the rules from s on are on the way from s0
   abbrev OnWay : State N → State N → Type 0
   OnWay s0 s = (v : State N) → RulesInsert n at (start name attrs closing) s v → RulesInsert n at (start name attrs closing) s0 v
 
   one-rule : (t : Token N) (s0 s : State N) (f : Flow N) → t ≡ start name attrs closing → Orderly n s → IsOutsideText s.control → OnWay s0 s → Rule n at t s ≡ f → Leads n at name attrs closing s0 f
-  one-rule t s0 s f same g out on_way rule = subst (Leads n at name attrs closing s0) (ap (λ u. Rule n at u s) (sym same) ∙ rule) (rule-leads n at name attrs closing s0 s out (head-below s g) ended on_way)
+  one-rule t s0 s f same g out on_way rule = subst (Leads n at name attrs closing s0) (ap (λ u. Rule n at u s) (sym same) ∙ rule) (rule-leads n at name attrs closing s0 s out (λ is h e. (subst (λ (p : Option ℕ). IfSome p (λ k. (0 < k) × (k < s.site.nodes.made))) e (orderly-head n s g is)).1) ended on_way)
 
   chain-leads : (t : Token N) (s0 s : State N) (o : Outcome (State N)) → t ≡ start name attrs closing → Orderly n s → IsOutsideText s.control → OnWay s0 s → Chain n at t s o → ComesToText n at name attrs closing s0 o
   chain-leads t s0 s o same g out on_way (ends {s' = s'} rule) =

@@ -1,5 +1,5 @@
 -- Where the formatting elements are reconstructed, none is left to be.
-use Rattle.hmodes.proofs.Vocabulary.{◌≡◌, ℕ, zero, suc, Bool, true, List, [], ◌∷◌, Option, Some, None, length, refl, ap, ◌∙◌, ◌==◌, ◌||◌, if◌then◌else◌, option_map_or, eq-eqb, Attribute, Place, before, changed_at, is_open, EntryOf, Listed, marker, entry, entry_at, for_node, made, inserted, numbers, place, stops_going_back, renewed, renewed_each, reconstructed, Outcome, Goes, SiteOf, stack, OnGoes, goes-then, before_text, puts_in, Mode}
+use Rattle.hmodes.proofs.Vocabulary.{◌≡◌, ℕ, zero, suc, Bool, true, List, [], ◌∷◌, Option, Some, None, length, refl, ap, ◌∙◌, ◌==◌, ◌||◌, if◌then◌else◌, option_map_or, eq-eqb, Attribute, Place, before, changed_at, is_open, EntryOf, Listed, marker, entry, entry_at, for_node, inserted, numbers, place, stops_going_back, renewed, renewed_each, reconstructed, Outcome, Goes, SiteOf, stack, OnGoes, goes-then, before_text, puts_in, Mode}
 use Rattle.hadopt.specs.Site as site
 use Rattle.hmodes.specs.declared.mode.Mode.TheVariants as mode
 use Rattle.hadopt.proofs.Climbing.{inserted-goes}
@@ -36,21 +36,15 @@ module _ (at : ℕ) where
   abbrev Done : SiteOf ℕ → SiteOf ℕ → Type 0
   Done s t = (t.foster ≡ s.foster) × (is_reconstructed t ≡ true)
 
-  renewed-same : (back : ℕ) (e : EntryOf ℕ) (s : SiteOf ℕ) → OnGoes (Same s) (renewed numbers at back e s)
-  renewed-same back e s = goes-then (Opened s) (Same s) (inserted at e.name e.attrs (place numbers s) s) _ (inserted-opened at e.name e.attrs (place numbers s) s) (λ t g. g.0)
-
-  renewed-done : (e : EntryOf ℕ) (s : SiteOf ℕ) → OnGoes (Done s) (renewed numbers at 0 e s)
-  renewed-done e s =
-      goes-then (Opened s) (Done s) (inserted at e.name e.attrs (place numbers s) s) _ (inserted-opened at e.name e.attrs (place numbers s) s)
-      (λ t g. (g.0, first-renewed t s.nodes.made t.items g.1))
-
   one-same : (back : ℕ) (s : SiteOf ℕ) (o : Option (EntryOf ℕ)) → OnGoes (Same s) (option_map_or (λ e. renewed numbers at back e s) o (Goes s))
   one-same back s None = refl
-  one-same back s (Some e) = renewed-same back e s
+  one-same back s (Some e) = goes-then (Opened s) (Same s) (inserted at e.name e.attrs (place numbers s) s) _ (inserted-opened at e.name e.attrs (place numbers s) s) (λ t g. g.0)
 
   one-done : (s : SiteOf ℕ) (o : Option (EntryOf ℕ)) → entry_at 0 s.items ≡ o → OnGoes (Done s) (option_map_or (λ e. renewed numbers at 0 e s) o (Goes s))
   one-done s None none = (refl, no-entry s s.items none)
-  one-done s (Some e) is = renewed-done e s
+  one-done s (Some e) is =
+      goes-then (Opened s) (Done s) (inserted at e.name e.attrs (place numbers s) s) _ (inserted-opened at e.name e.attrs (place numbers s) s)
+      (λ t g. (g.0, first-renewed t s.nodes.made t.items g.1))
 
   each-done : (back : ℕ) (s : SiteOf ℕ) → OnGoes (Done s) (renewed_each numbers at (suc back) s)
   each-done zero s =

@@ -2,11 +2,8 @@
 use Rattle.hmodes.proofs.Vocabulary.{◌≡◌, ℕ, ◌≤◌, Bool, true, false, List, length, refl, sym, ap, ◌∙◌, arith, nat_le, nat_tests, Refusal, Attribute, Place, inserted, Outcome, Goes, SiteOf, stack}
 use Rattle.hadopt.specs.Site.{Refused}
 
-pub above_one : (n : ℕ) → 16 ≤ n → nat_le n 1 ≡ false
-above_one n h = grind (arith, nat_tests)
-
-pub above_none : (n : ℕ) → 16 ≤ n → nat_le n 0 ≡ false
-above_none n h = grind (arith, nat_tests)
+pub above : (m n : ℕ) → m ≤ 1 → 16 ≤ n → nat_le n m ≡ false
+above m n low h = grind (arith, nat_tests)
 
 abbrev is_refused : Outcome (SiteOf ℕ) → Bool
 is_refused (Goes x) = false

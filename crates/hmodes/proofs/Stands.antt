@@ -1,5 +1,5 @@
 -- Every rule keeps what the open nodes need: they are in the document's tree, each outside of those below it.
-use Rattle.hmodes.proofs.Vocabulary.{by_test, cond_both, ◌≡◌, ℕ, ◌<◌, Bool, true, false, not, cond, leb, List, [], ◌∷◌, Option, Some, None, refl, subst, length, filter, ◌&&◌, ◌||◌, ◌==◌, nat_le, option_map_or, list_any, element, LastIn, is_node, EntryOf, Listed, entry, cleared, find_entry, without_entry, with_room, without_earliest, is_equal, after_marker, most_equal, Tag, is_space, TooDeep, Naming, Outcome, Goes, SiteOf, stack, trees, with_stack, with_error, from_top, open_node, place, listed, is, adopted, Each, TellsTables, deep, OnGoes, goes-then, Plain, PlainEntries, plain-without, Well, among-past, among-drop, fewer, listed-as, erred, closed-well, other-well, adopted-well, missing-well, first-fits, here-fits, root-fits, place-fits, added-well, inserted-well, put-well, reconstructed-well, Mode, AfterHead, family_of, TokenKind, Nul, Ws, Char, Start, Do, ◌▸◌, error, insert, insert_named, insert_root, insert_root_named, insert_comment, comment_in_document, comment_in_first, insert_doctype, put, add_missing_to_first, add_missing_to_second, pop, pop_to, pop_to_name, pop_to_group, implied, implied_except, implied_except_name, clear_to_table, clear_to_body, clear_to_row, push_head, remove_head, remove_form, reconstruct, push_to_list, clear_to_marker, close_p, adopt, adopt_listed, other_end, Token, character, start, State, Flow, kind_of, token_name, token_attrs, token_text, token_char, doctype_node, perform, with_site, flow_of, removed, forgotten, current_node, adopted_listed, head_pushed, rule_of, mode_error, Rule, in_head, after_head, late}
+use Rattle.hmodes.proofs.Vocabulary.{by_test, cond_both, ◌≡◌, ℕ, ◌<◌, Bool, true, false, not, cond, leb, List, [], ◌∷◌, Option, Some, None, refl, subst, length, filter, ◌&&◌, ◌||◌, ◌==◌, nat_le, option_map_or, list_any, element, LastIn, is_node, EntryOf, Listed, entry, cleared, find_entry, without_entry, with_room, without_earliest, is_equal, after_marker, most_equal, Tag, is_space, TooDeep, Naming, Outcome, Goes, SiteOf, stack, trees, with_stack, with_error, from_top, open_node, place, is, adopted, Each, TellsTables, deep, OnGoes, goes-then, Plain, PlainEntries, plain-without, Well, among-past, among-drop, fewer, listed-as, erred, closed-well, other-well, adopted-well, missing-well, first-fits, here-fits, root-fits, place-fits, added-well, inserted-well, put-well, reconstructed-well, Mode, AfterHead, family_of, TokenKind, Nul, Ws, Char, Start, Do, ◌▸◌, error, insert, insert_named, insert_root, insert_root_named, insert_comment, comment_in_document, comment_in_first, insert_doctype, put, add_missing_to_first, add_missing_to_second, pop, pop_to, pop_to_name, pop_to_group, implied, implied_except, implied_except_name, clear_to_table, clear_to_body, clear_to_row, push_head, remove_head, remove_form, reconstruct, push_to_list, clear_to_marker, close_p, adopt, adopt_listed, other_end, Token, character, start, State, Flow, kind_of, token_name, token_attrs, token_text, token_char, doctype_node, perform, with_site, flow_of, removed, forgotten, current_node, adopted_listed, head_pushed, rule_of, mode_error, Rule, in_head, after_head, late}
 use Rattle.hnodes.specs.Forest as forest
 use Rattle.hopen.specs.Formatting as list
 use Rattle.names.specs.declared.tag.Tag.TheVariants as tag
@@ -41,9 +41,6 @@ module _ {N : Type 0} (n : Naming N) where
   removed-well None s h = fewer n s (stack s) (among-all (stack s)) h
   removed-well (Some k) s h = fewer n s _ (among-without (is_node k) (stack s)) h
 
-  forgotten-well : (k : ℕ) (s : SiteOf N) → Well n s → Well n (forgotten k s)
-  forgotten-well k s h = listed-as n (removed (Some k) s) (without_entry k s.items) (plain-without n k s.items h.plain) (removed-well (Some k) s h)
-
   plain-cleared : (items : List (Listed N)) → PlainEntries n items → PlainEntries n (cleared items)
   plain-cleared [] h = tt
   plain-cleared (list.marker ∷ items) h = h
@@ -57,16 +54,13 @@ module _ {N : Type 0} (n : Naming N) where
   plain-room : (e : EntryOf N) (items : List (Listed N)) → PlainEntries n items → PlainEntries n (with_room n.same e items)
   plain-room e items h = cond_both (nat_le most_equal (length (filter (is_equal n.same e) (after_marker items)))) (without_earliest (is_equal n.same e) items) items (PlainEntries n) (λ _. plain-earliest (is_equal n.same e) items h) (λ _. h)
 
-  listed-well : (t : Token N) → Plain n (token_name n t) → (s : SiteOf N) → Well n s → Well n (listed n (token_name n t) (token_attrs t) s)
-  listed-well t name s h = listed-as n s _ (name, plain-room (record { node = current_node s; name = token_name n t; attrs = token_attrs t }) s.items h.plain) h
-
   module _ (tells : TellsTables n) where
     adopted-listed-well : (at : ℕ) (name : N) (s : SiteOf N) → Well n s → OnGoes (Well n) (adopted_listed n at name s)
     adopted-listed-well at name s h = goes-then (Well n) (Well n) (adopted n at name s) _ (adopted-well n tells at name s h) (λ y k. go y k (find_entry n.same name s.items))
       where
         go : (y : SiteOf N) → Well n y → (o : Option (EntryOf N)) → Well n (option_map_or (λ e. forgotten e.node y) o y)
         go y k None = k
-        go y k (Some e) = forgotten-well e.node y k
+        go y k (Some e) = listed-as n (removed (Some e.node) y) (without_entry e.node y.items) (plain-without n e.node y.items k.plain) (removed-well (Some e.node) y k)
 
     well-word : (v w : Bool) (p : Do) → is_word p ≡ true → tame_word v w p ≡ true → (at : ℕ) (t : Token N) → (v ≡ true → w ≡ true → Plain n (token_name n t)) → (s : State N) → Well n s.site → FlowWell (perform n at t p s)
     well-word v w (error m) i calm at t name s h = erred n s.site _ at h
@@ -94,7 +88,7 @@ module _ {N : Type 0} (n : Naming N) where
     well-word v w remove_head i calm at t name s h = removed-well s.control.head s.site h
     well-word v w remove_form i calm at t name s h = removed-well s.control.form s.site h
     well-word v w reconstruct i calm at t name s h = on-site s _ (reconstructed-well n at s.site h)
-    well-word v w push_to_list i calm at t name s h = listed-well t (name (both v w calm).0 (both v w calm).1) s.site h
+    well-word v w push_to_list i calm at t name s h = listed-as n s.site _ (name (both v w calm).0 (both v w calm).1, plain-room (record { node = current_node s.site; name = token_name n t; attrs = token_attrs t }) s.site.items h.plain) h
     well-word v w marker i calm at t name s h = listed-as n s.site _ h.plain h
     well-word v w clear_to_marker i calm at t name s h = listed-as n s.site _ (plain-cleared s.site.items h.plain) h
     well-word v w close_p i calm at t name s h = closed-well n at (is n tag.P) s.site h
@@ -122,9 +116,6 @@ is_late _ = false
 abbrev opens_head : Mode → TokenKind → Bool
 opens_head AfterHead k = is_late k
 opens_head _ k = false
-
-tame-rule : (m : Mode) (k : TokenKind) → (opens_head m k || tame (may_list k) (rule_of m k)) ≡ true
-tame-rule = in-each (λ m k. opens_head m k || tame (may_list k) (rule_of m k)) refl
 
 -- none of them is for a table
 list-plain : (x : Tag) → may_list (Start (family_of x)) ≡ true → x ≡ tag.Table → ⊥
@@ -171,7 +162,7 @@ module _ {N : Type 0} (n : Naming N) (tells : TellsTables n) where
 
   -- every rule keeps it
   pub rule-well : (at : ℕ) (t : Token N) (s : State N) → (s.control.mode ≡ AfterHead → HeadOut s) → Well n s.site → FlowWell n (Rule n at t s)
-  rule-well at t s out h = go s.control.mode refl (opens_head s.control.mode (kind_of n t)) refl (tame-rule s.control.mode (kind_of n t))
+  rule-well at t s out h = go s.control.mode refl (opens_head s.control.mode (kind_of n t)) refl (in-each (λ m k. opens_head m k || tame (may_list k) (rule_of m k)) refl s.control.mode (kind_of n t))
     where
       go : (m : Mode) → s.control.mode ≡ m → (v : Bool) → opens_head m (kind_of n t) ≡ v → (v || tame (may_list (kind_of n t)) (rule_of m (kind_of n t))) ≡ true → FlowWell n (perform n at t (rule_of m (kind_of n t)) s)
       go m is false e calm = perform-well n tells (may_list (kind_of n t)) (rule_of m (kind_of n t)) calm at t (plain-token t) s h

@@ -1,5 +1,5 @@
 -- Characters that are put as they are.
-use Rattle.hmodes.proofs.Vocabulary.{◌≡◌, ℕ, zero, suc, Bool, true, false, List, [], ◌∷◌, ◌++◌, ◌+◌, ◌-◌, length, Option, Some, None, Result, Ok, Err, refl, sym, ap, ◌∙◌, arith, subst, list_all, ◌&&◌, ◌==◌, not, is_none, result_err, and_parts, false≢true, nat_tests, placed, characters, Placed, one_more, one_refused, len_utf8, encode_utf8, repeat, chars, IsUtf8, IsUtf8-nil, IsUtf8-encode, IsUtf8-append, chars-nil, chars_past_char, AreNodes, IsPlace, Hands, Refusal, Place, run_tokens, replacement_run, StartsAt, IsTextWithReferences, Gives, put_each, Outcome, SiteOf, with_site, State, Token, step_begun, Building, BuilderStands, TakesTokenAt, TakesToken, refused_by, AreSome, puts_in, puts_each, put_all, Alone, Handed}
+use Rattle.hmodes.proofs.Vocabulary.{◌≡◌, ℕ, zero, suc, Bool, true, false, List, [], ◌∷◌, ◌++◌, ◌+◌, ◌-◌, length, Option, None, Result, Ok, Err, refl, sym, ap, ◌∙◌, arith, subst, list_all, ◌&&◌, ◌==◌, not, is_none, result_err, and_parts, false≢true, nat_tests, placed, characters, Placed, one_more, one_refused, len_utf8, encode_utf8, repeat, chars, IsUtf8, IsUtf8-nil, IsUtf8-encode, IsUtf8-append, chars-nil, chars_past_char, AreNodes, IsPlace, Hands, Refusal, Place, run_tokens, replacement_run, StartsAt, IsTextWithReferences, Gives, put_each, SiteOf, with_site, State, Token, step_begun, Building, BuilderStands, TakesTokenAt, TakesToken, refused_by, AreSome, puts_in, puts_each, put_all, Alone, Handed}
 use Rattle.std.proofs.lemmas.List.{length-append}
 use Rattle.names.proofs.Handing.{Continues-all}
 use Rattle.htext.specs.Run.{is_clean}
@@ -26,10 +26,8 @@ some_not_null (c ∷ cs) h = let k = and_parts (is_not_null c) (list_all is_not_
 
 -- what the test of a state says
 off-of : (a b c : Bool) → (not a && not b && c) ≡ true → (a ≡ false) × (b ≡ false) × (c ≡ true)
-off-of true b c h = absurd cc
-off-of false true c h = absurd cc
 off-of false false true h = (refl, refl, refl)
-off-of false false false h = absurd cc
+off-of _ _ _ h = absurd cc
 
 -- the building after characters were put, once a token has begun in it
 abbrev pub after_put : Building → SiteOf ℕ → Result (Unit {0}) Refusal → Building
@@ -99,20 +97,14 @@ pub ok-of : (answer : Result (Unit {0}) Refusal) → result_err answer ≡ None 
 ok-of (Ok u) h = refl
 ok-of (Err e) h = absurd cc
 
--- what a call leaves that begins a token, puts characters, and keeps what was refused
-pub left_is : (b old : Building) (s t : State ℕ) (x : SiteOf ℕ) (refused : Option Refusal) (answer : Result (Unit {0}) Refusal) → old ≡ b → s ≡ step_begun old.state → t ≡ with_site x s
-    → refused ≡ result_err answer → ◌≡◌ {A = Building} (record { state = t; root = old.root; tokenizer_errors = old.tokenizer_errors; refused = refused }) (after_put b x answer)
-left_is b old s t x refused answer is begins rest errs = λ i. record {
-  state = (rest ∙ ap (with_site x) (begins ∙ ap (λ (o : Building). step_begun o.state) is)) i;
-  root = (is i).root;
-  tokenizer_errors = (is i).tokenizer_errors;
-  refused = (errs ∙ err_is answer) i;
-}
+-- what a call leaves that begins a token, comes to this state, and keeps what was refused
+pub left_is : (b old : Building) (s t : State ℕ) (refused : Option Refusal) (answer : Result (Unit {0}) Refusal) → old ≡ b → s ≡ t → refused ≡ result_err answer
+    → ◌≡◌ {A = Building} (record { state = s; root = old.root; tokenizer_errors = old.tokenizer_errors; refused = refused }) (record { state = t; root = b.root; tokenizer_errors = b.tokenizer_errors; refused = refused_by answer })
+left_is b old s t refused answer is begins errs = λ i. record { state = begins i; root = (is i).root; tokenizer_errors = (is i).tokenizer_errors; refused = (errs ∙ err_is answer) i }
 
--- the site that characters are put in is that of the building
-pub gives-of : (b old : Building) (s : State ℕ) (x : SiteOf ℕ) (answer : Result (Unit {0}) Refusal) (f : State ℕ → Outcome (SiteOf ℕ)) → old ≡ b → s ≡ step_begun old.state → Gives answer x (f s)
-    → Gives answer x (f (step_begun b.state))
-gives-of b old s x answer f is begins g = subst (λ (t : State ℕ). Gives answer x (f t)) (begins ∙ ap (λ (o : Building). step_begun o.state) is) g
+-- the state in which the token begins is that of the building
+pub begun_is : (b old : Building) (s : State ℕ) → old ≡ b → s ≡ step_begun old.state → s ≡ step_begun b.state
+begun_is b old s is begins = begins ∙ ap (λ (o : Building). step_begun o.state) is
 
 -- what an unrefused building is after tokens, or after one
 pub stands_by_run : (ts : List Handed) (old new : Building) (answer : Result (Unit {0}) Refusal) → (old.refused ≡ None → BuilderStands old.root old.state) → old.refused ≡ None → result_err answer ≡ None → Hands TakesToken old ts answer new
@@ -125,14 +117,10 @@ pub stands_by_token : (at : ℕ) (t : Token ℕ) (old new : Building) (answer : 
 stands_by_token at t old new answer stands free none h =
     stands-on at t old new (stands free) (taken at t old new (Ok tt) free (subst (λ (a : Result (Unit {0}) Refusal). TakesTokenAt at t old a new) (ok-of answer none) h))
 
--- what the test of a run says
-pub run_parts : (run : List ℕ) (b : Building) (whole : Bool) → (not (length run == 0) && is_none b.refused && whole) ≡ true → (false ≡ (length run == 0)) × (b.refused ≡ None) × (whole ≡ true)
-run_parts run b whole h = go (length run == 0) b.refused whole h
-  where
-    go : (none : Bool) (o : Option Refusal) (whole : Bool) → (not none && is_none o && whole) ≡ true → (false ≡ none) × (o ≡ None) × (whole ≡ true)
-    go true o whole h = absurd cc
-    go false (Some r) whole h = absurd cc
-    go false None whole h = (refl, refl, h)
+-- what the test of a run or a character says
+pub test_parts : (nothing : Bool) (refused : Option Refusal) (whole : Bool) → (not nothing && is_none refused && whole) ≡ true → (nothing ≡ false) × (refused ≡ None) × (whole ≡ true)
+test_parts false None whole h = (refl, refl, h)
+test_parts _ _ _ h = absurd cc
 
 -- what is left of a run of plain characters is one
 pub rest_clean : (run rest : List ℕ) (c : ℕ) → IsUtf8 run → run ≡ encode_utf8 c ++ rest → list_all is_clean (chars run) ≡ true → list_all is_clean (chars rest) ≡ true

@@ -2,9 +2,9 @@
 
 ghost use Rattle.hmodes.specs.Vocabulary.{after_body, after_after_body, character_in_body, End, ◌▸◌, error, to, again, InBody, AfterBody, Start, Performs, AlwaysPerforms};
 
-use crate::family::Family;
+use crate::family::Family::*;
 use crate::mode::Mode;
-use crate::token_kind::TokenKind;
+use crate::token_kind::TokenKind::{self, *};
 use crate::tree_construction::{Flow, Ruling, TreeConstruction};
 use htoken::Token;
 
@@ -14,18 +14,18 @@ impl<'q> TreeConstruction<'q> {
         ensures { Performs at (after_body kind) token.old self.old result token.new self.new }
     {
         match kind {
-            TokenKind::Ws => self.character_in_body(token, at),
-            TokenKind::Comment => self.comment_in_first(token, at),
-            TokenKind::Doctype => self.ignore(Mode::AfterBody, at),
-            TokenKind::Start(Family::Html) => self.html_again(token, at),
-            TokenKind::End(Family::Html) => {
+            Ws => self.character_in_body(token, at),
+            Comment => self.comment_in_first(token, at),
+            Doctype => self.ignore(Mode::AfterBody, at),
+            Start(Html) => self.html_again(token, at),
+            End(Html) => {
                 if self.context.is_some() {
                     return self.ignore(Mode::AfterBody, at);
                 }
                 self.control.mode = Mode::AfterAfterBody;
                 Ok(Flow::Done)
             }
-            TokenKind::Eof => Ok(Flow::Done),
+            Eof => Ok(Flow::Done),
             _ => self.back_to_body(Mode::AfterBody, at),
         }
     }
@@ -44,11 +44,11 @@ impl<'q> TreeConstruction<'q> {
         ensures { Performs at (after_after_body kind) token.old self.old result token.new self.new }
     {
         match kind {
-            TokenKind::Comment => self.comment_in_document(token, at),
-            TokenKind::Doctype => self.ignore(Mode::InBody, at),
-            TokenKind::Ws => self.character_in_body(token, at),
-            TokenKind::Start(Family::Html) => self.html_again(token, at),
-            TokenKind::Eof => Ok(Flow::Done),
+            Comment => self.comment_in_document(token, at),
+            Doctype => self.ignore(Mode::InBody, at),
+            Ws => self.character_in_body(token, at),
+            Start(Html) => self.html_again(token, at),
+            Eof => Ok(Flow::Done),
             _ => self.back_to_body(Mode::AfterAfterBody, at),
         }
     }

@@ -4,23 +4,22 @@ ghost use Rattle.std.specs.Prelude.{◌<◌};
 ghost use Rattle.hmodes.specs.Vocabulary.{before_html, html_unwritten, before_head, head_unwritten, Performs, AlwaysPerforms};
 ghost use Rattle.hmodes.specs.Vocabulary.{insert};
 
-use crate::family::Family;
+use crate::family::Family::*;
 use crate::mode::Mode;
 use crate::token::{take_attrs, token_name};
-use crate::token_kind::TokenKind;
+use crate::token_kind::TokenKind::{self, *};
 use crate::tree_construction::{Flow, Ruling, TreeConstruction};
 use htoken::Token;
 use names::Tag;
 
 impl<'q> TreeConstruction<'q> {
-    /// The "before html" insertion mode (`#the-before-html-insertion-mode`).
     pub(crate) fn before_html(&mut self, kind: TokenKind, token: &mut Token, at: u64) -> Ruling
         ensures { Performs at (before_html kind) token.old self.old result token.new self.new }
     {
         match kind {
-            TokenKind::Comment => self.comment_in_document(token, at),
-            TokenKind::Ws => Ok(Flow::Done),
-            TokenKind::Start(Family::Html) => {
+            Comment => self.comment_in_document(token, at),
+            Ws => Ok(Flow::Done),
+            Start(Html) => {
                 let name = token_name(token);
                 let mut attrs = take_attrs(self.alloc, token);
                 let place = self.site.place_in_document();
@@ -28,10 +27,8 @@ impl<'q> TreeConstruction<'q> {
                 self.control.mode = Mode::BeforeHead;
                 Ok(Flow::Done)
             }
-            TokenKind::End(Family::Head | Family::Body | Family::Html | Family::Br) => {
-                self.html_unwritten(at)
-            }
-            TokenKind::Doctype | TokenKind::End(_) => self.ignore(Mode::BeforeHtml, at),
+            End(Head | Body | Html | Br) => self.html_unwritten(at),
+            Doctype | End(_) => self.ignore(Mode::BeforeHtml, at),
             _ => self.html_unwritten(at),
         }
     }
@@ -47,24 +44,21 @@ impl<'q> TreeConstruction<'q> {
         Ok(Flow::Again)
     }
 
-    /// The "before head" insertion mode (`#the-before-head-insertion-mode`).
     pub(crate) fn before_head(&mut self, kind: TokenKind, token: &mut Token, at: u64) -> Ruling
         ensures { Performs at (before_head kind) token.old self.old result token.new self.new }
     {
         match kind {
-            TokenKind::Ws => Ok(Flow::Done),
-            TokenKind::Comment => self.insert_comment(token, at),
-            TokenKind::Start(Family::Html) => self.html_again(token, at),
-            TokenKind::Start(Family::Head) => {
+            Ws => Ok(Flow::Done),
+            Comment => self.insert_comment(token, at),
+            Start(Html) => self.html_again(token, at),
+            Start(Head) => {
                 self.insert(token, at)?;
                 self.control.head = Some(self.current_node());
                 self.control.mode = Mode::InHead;
                 Ok(Flow::Done)
             }
-            TokenKind::End(Family::Head | Family::Body | Family::Html | Family::Br) => {
-                self.head_unwritten(at)
-            }
-            TokenKind::Doctype | TokenKind::End(_) => self.ignore(Mode::BeforeHead, at),
+            End(Head | Body | Html | Br) => self.head_unwritten(at),
+            Doctype | End(_) => self.ignore(Mode::BeforeHead, at),
             _ => self.head_unwritten(at),
         }
     }

@@ -61,7 +61,6 @@ pub(crate) fn form_pointer(site: &Site, context: Tag) -> Option<NodeId>
     }
 }
 
-/// The mode that an open node decides on.
 fn open_mode(tag: Tag) -> Option<Mode>
     ensures { result ≡ open_mode tag }
 {
@@ -77,7 +76,6 @@ fn open_mode(tag: Tag) -> Option<Mode>
     }
 }
 
-/// The mode that a context decides on.
 pub(crate) fn context_mode(tag: Tag) -> Mode
     ensures { result ≡ context_mode tag }
 {

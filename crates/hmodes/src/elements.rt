@@ -45,7 +45,6 @@ impl<'q> TreeConstruction<'q> {
         Ok(Flow::Done)
     }
 
-    /// The start tag form.
     pub(crate) fn form(&mut self, token: &mut Token, at: u64) -> Ruling
         ensures { Performs at (in_body (Start family.Form)) token.old self.old result token.new self.new }
     {
@@ -58,7 +57,6 @@ impl<'q> TreeConstruction<'q> {
         Ok(Flow::Done)
     }
 
-    /// An open li is closed.
     #[inline(always)]
     fn close_li(&mut self, at: u64) -> Result<(), Refusal>
         ensures { Does at (when (item_is_near tag.Li) (close_item tag.Li)) self.old result self.new }
@@ -70,7 +68,6 @@ impl<'q> TreeConstruction<'q> {
         Ok(())
     }
 
-    /// The start tag li.
     pub(crate) fn li(&mut self, token: &mut Token, at: u64) -> Ruling
         ensures { Performs at (in_body (Start family.Li)) token.old self.old result token.new self.new }
     {
@@ -78,7 +75,6 @@ impl<'q> TreeConstruction<'q> {
         self.block(token, at)
     }
 
-    /// An open dt is closed.
     fn close_dt(&mut self, at: u64) -> Result<(), Refusal>
         ensures { Does at (when (item_is_near tag.Dt) (close_item tag.Dt)) self.old result self.new }
     {
@@ -89,7 +85,6 @@ impl<'q> TreeConstruction<'q> {
         Ok(())
     }
 
-    /// An open dd or dt is closed.
     fn close_dd(&mut self, at: u64) -> Result<(), Refusal>
         ensures { Does at (choose (item_is_near tag.Dd) (close_item tag.Dd) (when (item_is_near tag.Dt) (close_item tag.Dt))) self.old result self.new }
     {
@@ -100,7 +95,6 @@ impl<'q> TreeConstruction<'q> {
         self.close_dt(at)
     }
 
-    /// The start tags dd and dt.
     pub(crate) fn dd(&mut self, token: &mut Token, at: u64) -> Ruling
         ensures { Performs at (in_body (Start family.Dd)) token.old self.old result token.new self.new }
     {
@@ -108,7 +102,6 @@ impl<'q> TreeConstruction<'q> {
         self.block(token, at)
     }
 
-    /// An open button in scope is closed.
     fn close_button(&mut self, at: u64) -> Result<(), Refusal>
         ensures { Does at (when (has_in scope.Default tag.Button) (error InBody ▸ implied ▸ pop_to tag.Button)) self.old result self.new }
     {
@@ -122,7 +115,6 @@ impl<'q> TreeConstruction<'q> {
         Ok(())
     }
 
-    /// The start tag button.
     pub(crate) fn button(&mut self, token: &mut Token, at: u64) -> Ruling
         ensures { Performs at (in_body (Start family.Button)) token.old self.old result token.new self.new }
     {
@@ -130,7 +122,6 @@ impl<'q> TreeConstruction<'q> {
         self.other_start(token, at)
     }
 
-    /// The end tag of a block.
     pub(crate) fn close_block(&mut self, token: &Token, at: u64) -> Ruling
         ensures { Performs at close_block token.now self.old result token.now self.new }
     {
@@ -142,7 +133,6 @@ impl<'q> TreeConstruction<'q> {
         done(self.pop_to(Mode::InBody, name, at))
     }
 
-    /// The end tag of an item, in a scope.
     pub(crate) fn end_item(&mut self, scope: Scope, token: &Token, at: u64) -> Ruling
         ensures { Performs at (end_item scope) token.now self.old result token.now self.new }
     {
@@ -196,7 +186,6 @@ impl<'q> TreeConstruction<'q> {
         Ok(Flow::Done)
     }
 
-    /// An element for a start tag, which is also a formatting element.
     pub(crate) fn insert_formatting(&mut self, token: &mut Token, at: u64) -> Result<(), Refusal>
         ensures { StateGives result (state_of self.new) (perform numbers at (token_of token.old) (insert ▸ push_to_list) (state_of self.old)) }
     {
@@ -207,7 +196,6 @@ impl<'q> TreeConstruction<'q> {
         Ok(())
     }
 
-    /// The start tag of a formatting element.
     #[inline(always)]
     pub(crate) fn formatting(&mut self, token: &mut Token, at: u64) -> Ruling
         ensures { Performs at formatting token.old self.old result token.new self.new }
@@ -233,7 +221,6 @@ impl<'q> TreeConstruction<'q> {
         Ok(())
     }
 
-    /// The start tag a.
     pub(crate) fn anchor(&mut self, token: &mut Token, at: u64) -> Ruling
         requires { IsSound numbers self.old.site }
         ensures { Performs at (in_body (Start family.A)) token.old self.old result token.new self.new }
@@ -242,7 +229,6 @@ impl<'q> TreeConstruction<'q> {
         self.formatting(token, at)
     }
 
-    /// The adoption agency runs for a nobr in scope.
     fn close_nobr(&mut self, token: &Token, at: u64) -> Result<(), Refusal>
         requires { IsSound numbers self.old.site }
         ensures { StateGives result (state_of self.new)
@@ -257,7 +243,6 @@ impl<'q> TreeConstruction<'q> {
         self.site.reconstruct(at)
     }
 
-    /// The start tag nobr.
     pub(crate) fn nobr(&mut self, token: &mut Token, at: u64) -> Ruling
         requires { IsSound numbers self.old.site }
         ensures { Performs at (in_body (Start family.Nobr)) token.old self.old result token.new self.new }
@@ -267,7 +252,6 @@ impl<'q> TreeConstruction<'q> {
         done(self.insert_formatting(token, at))
     }
 
-    /// The end tag of a formatting element.
     pub(crate) fn adopt(&mut self, token: &Token, at: u64) -> Ruling
         requires { IsSound numbers self.old.site }
         ensures { Performs at adopt token.now self.old result token.now self.new }
@@ -305,7 +289,6 @@ impl<'q> TreeConstruction<'q> {
         self.insert_and_go(Mode::InTable, token, at)
     }
 
-    /// The end tag br.
     pub(crate) fn end_br(&mut self, at: u64) -> Ruling
         ensures { AlwaysPerforms at (in_body (End family.Br)) self.old result self.new }
     {
@@ -316,7 +299,6 @@ impl<'q> TreeConstruction<'q> {
         Ok(Flow::Done)
     }
 
-    /// A void element among formatting elements.
     pub(crate) fn void_in_text(&mut self, token: &mut Token, at: u64) -> Ruling
         ensures { Performs at void_in_text token.old self.old result token.new self.new }
     {
@@ -324,7 +306,6 @@ impl<'q> TreeConstruction<'q> {
         done(self.void(token, at))
     }
 
-    /// The start tag hr.
     pub(crate) fn hr(&mut self, token: &mut Token, at: u64) -> Ruling
         ensures { Performs at (in_body (Start family.Hr)) token.old self.old result token.new self.new }
     {
@@ -341,7 +322,6 @@ impl<'q> TreeConstruction<'q> {
         Ok(Flow::Again)
     }
 
-    /// The start tag textarea.
     pub(crate) fn textarea(&mut self, token: &mut Token, at: u64) -> Ruling
         ensures { Performs at (in_body (Start family.Textarea)) token.old self.old result token.new self.new }
     {
@@ -350,7 +330,6 @@ impl<'q> TreeConstruction<'q> {
         Ok(Flow::Done)
     }
 
-    /// The start tag xmp.
     pub(crate) fn xmp(&mut self, token: &mut Token, at: u64) -> Ruling
         ensures { Performs at (in_body (Start family.Xmp)) token.old self.old result token.new self.new }
     {
@@ -386,7 +365,6 @@ impl<'q> TreeConstruction<'q> {
         self.error_unless(in_place, Mode::InBody, at)
     }
 
-    /// The start tags rp and rt.
     pub(crate) fn rp(&mut self, token: &mut Token, at: u64) -> Ruling
         ensures { Performs at (in_body (Start family.Rp)) token.old self.old result token.new self.new }
     {

@@ -5,97 +5,87 @@ ghost use Rattle.hmodes.specs.declared.family.Family.TheVariants as family;
 ghost use Rattle.hopen.specs.declared.scope.Scope.TheVariants as scope;
 ghost use Rattle.names.specs.declared.tag.Tag.TheVariants as tag;
 
-use crate::family::Family;
+use crate::family::Family::{self, *};
 use crate::mode::Mode;
 use crate::token::{token_char, token_name};
-use crate::token_kind::TokenKind;
+use crate::token_kind::TokenKind::{self, *};
 use crate::tree_construction::{Flow, Ruling, TreeConstruction, done};
 use hopen::Scope;
 use htoken::Token;
 use names::{Refusal, Tag};
 
 impl<'q> TreeConstruction<'q> {
-    /// The "in body" insertion mode (`#parsing-main-inbody`).
     #[inline(always)]
     pub(crate) fn in_body(&mut self, kind: TokenKind, token: &mut Token, at: u64) -> Ruling
         requires { IsSound numbers self.old.site }
         ensures { Performs at (in_body kind) token.old self.old result token.new self.new }
     {
         match kind {
-            TokenKind::Nul | TokenKind::Doctype => self.ignore(Mode::InBody, at),
-            TokenKind::Ws | TokenKind::Char => self.character_in_body(token, at),
-            TokenKind::Comment => self.insert_comment(token, at),
-            TokenKind::Start(family) => self.start_in_body(family, token, at),
-            TokenKind::End(family) => self.end_in_body(family, token, at),
-            TokenKind::Eof => done(self.check_open(at)),
+            Nul | Doctype => self.ignore(Mode::InBody, at),
+            Ws | Char => self.character_in_body(token, at),
+            Comment => self.insert_comment(token, at),
+            Start(family) => self.start_in_body(family, token, at),
+            End(family) => self.end_in_body(family, token, at),
+            Eof => done(self.check_open(at)),
         }
     }
 
-    /// A start tag.
     #[inline(never)]
     fn start_in_body(&mut self, family: Family, token: &mut Token, at: u64) -> Ruling
         requires { IsSound numbers self.old.site }
         ensures { Performs at (in_body (Start family)) token.old self.old result token.new self.new }
     {
         match family {
-            Family::Html => self.html_again(token, at),
-            Family::Base
-            | Family::HeadVoid
-            | Family::Noframes
-            | Family::Script
-            | Family::Style
-            | Family::Title => self.in_head(TokenKind::Start(family), token, at),
-            Family::Body => self.body_again(token, at),
-            Family::Block | Family::P | Family::Plaintext => self.block(token, at),
-            Family::Heading => self.heading(token, at),
-            Family::Pre => self.pre(token, at),
-            Family::Form => self.form(token, at),
-            Family::Li => self.li(token, at),
-            Family::Dd => self.dd(token, at),
-            Family::Button => self.button(token, at),
-            Family::A => self.anchor(token, at),
-            Family::Formatting => self.formatting(token, at),
-            Family::Nobr => self.nobr(token, at),
-            Family::Object => self.object(token, at),
-            Family::Table => self.table(token, at),
-            Family::PhrasingVoid | Family::Br | Family::Input => self.void_in_text(token, at),
-            Family::MediaVoid => done(self.void(token, at)),
-            Family::Hr => self.hr(token, at),
-            Family::Image => self.image(token, at),
-            Family::Textarea => self.textarea(token, at),
-            Family::Xmp => self.xmp(token, at),
-            Family::Iframe => done(self.raw(token, at)),
-            Family::Rb => self.rb(token, at),
-            Family::Rp => self.rp(token, at),
-            Family::Caption
-            | Family::Col
-            | Family::Colgroup
-            | Family::Head
-            | Family::TableSection
-            | Family::Cell
-            | Family::Row => self.ignore(Mode::InBody, at),
+            Html => self.html_again(token, at),
+            Base | HeadVoid | Noframes | Script | Style | Title => {
+                self.in_head(Start(family), token, at)
+            }
+            Body => self.body_again(token, at),
+            Block | P | Plaintext => self.block(token, at),
+            Heading => self.heading(token, at),
+            Pre => self.pre(token, at),
+            Form => self.form(token, at),
+            Li => self.li(token, at),
+            Dd => self.dd(token, at),
+            Button => self.button(token, at),
+            A => self.anchor(token, at),
+            Formatting => self.formatting(token, at),
+            Nobr => self.nobr(token, at),
+            Object => self.object(token, at),
+            Table => self.table(token, at),
+            PhrasingVoid | Br | Input => self.void_in_text(token, at),
+            MediaVoid => done(self.void(token, at)),
+            Hr => self.hr(token, at),
+            Image => self.image(token, at),
+            Textarea => self.textarea(token, at),
+            Xmp => self.xmp(token, at),
+            Iframe => done(self.raw(token, at)),
+            Rb => self.rb(token, at),
+            Rp => self.rp(token, at),
+            Caption | Col | Colgroup | Head | TableSection | Cell | Row => {
+                self.ignore(Mode::InBody, at)
+            }
             _ => self.other_start(token, at),
         }
     }
 
-    /// An end tag.
     #[inline(never)]
     fn end_in_body(&mut self, family: Family, token: &mut Token, at: u64) -> Ruling
         requires { IsSound numbers self.old.site }
         ensures { Performs at (in_body (End family)) token.old self.old result token.new self.new }
     {
         match family {
-            Family::Body => self.end_body(Flow::Done, at),
-            Family::Html => self.end_body(Flow::Again, at),
-            Family::Block | Family::Button | Family::Pre => self.close_block(token, at),
-            Family::Form => self.end_form(at),
-            Family::P => self.end_p(at),
-            Family::Li => self.end_item(Scope::ListItem, token, at),
-            Family::Dd => self.end_item(Scope::Default, token, at),
-            Family::Heading => self.end_heading(token, at),
-            Family::A | Family::Formatting | Family::Nobr => self.adopt(token, at),
-            Family::Object => self.end_object(token, at),
-            Family::Br => self.end_br(at),
+            Body => self.end_body(Flow::Done, at),
+            Html => self.end_body(Flow::Again, at),
+            Block | Button | Pre => self.close_block(token, at),
+            Form => self.end_form(at),
+            P => self.end_p(at),
+            Li => self.end_item(Scope::ListItem, token, at),
+            Dd => self.end_item(Scope::Default, token, at),
+            Heading => self.end_heading(token, at),
+            A | Formatting | Nobr => self.adopt(token, at),
+            Object => self.end_object(token, at),
+            Br => self.end_br(at),
             _ => self.other_end(token, at),
         }
     }
@@ -148,7 +138,6 @@ impl<'q> TreeConstruction<'q> {
         Ok(flow)
     }
 
-    /// Any other start tag.
     pub(crate) fn other_start(&mut self, token: &mut Token, at: u64) -> Ruling
         ensures { Performs at (reconstruct ▸ insert) token.old self.old result token.new self.new }
     {
@@ -156,26 +145,24 @@ impl<'q> TreeConstruction<'q> {
         done(self.insert(token, at))
     }
 
-    /// Any other end tag.
     pub(crate) fn other_end(&mut self, token: &Token, at: u64) -> Ruling
         ensures { Performs at other_end token.now self.old result token.now self.new }
     {
         done(self.site.other_end(token_name(token), at))
     }
 
-    /// The "text" insertion mode (`#parsing-main-incdata`).
     pub(crate) fn text(&mut self, kind: TokenKind, token: &mut Token, at: u64) -> Ruling
         ensures { Performs at (text kind) token.old self.old result token.new self.new }
     {
         match kind {
-            TokenKind::Nul | TokenKind::Ws | TokenKind::Char => self.put(token, at),
-            TokenKind::Eof => {
+            Nul | Ws | Char => self.put(token, at),
+            Eof => {
                 self.error(Mode::Text, at)?;
                 self.site.pop();
                 self.control.mode = self.control.saved;
                 Ok(Flow::Again)
             }
-            TokenKind::End(_) => self.pop_and_go(self.control.saved, Flow::Done),
+            End(_) => self.pop_and_go(self.control.saved, Flow::Done),
             _ => self.ignore(Mode::Text, at),
         }
     }

@@ -3,40 +3,27 @@
 ghost use Rattle.hmodes.specs.Vocabulary.{IsSound, numbers, Start, End, InTable, Performs, AlwaysPerforms, ended};
 ghost use Rattle.hmodes.specs.Vocabulary.{in_caption, close_caption, in_column_group};
 
-use crate::family::Family;
+use crate::family::Family::*;
 use crate::mode::Mode;
-use crate::token_kind::TokenKind;
+use crate::token_kind::TokenKind::{self, *};
 use crate::tree_construction::{Flow, Ruling, TreeConstruction, done};
 use hopen::Scope;
 use htoken::Token;
 use names::Tag;
 
 impl<'q> TreeConstruction<'q> {
-    /// The "in caption" insertion mode (`#parsing-main-incaption`).
     pub(crate) fn in_caption(&mut self, kind: TokenKind, token: &mut Token, at: u64) -> Ruling
         requires { IsSound numbers self.old.site }
         ensures { Performs at (in_caption kind) token.old self.old result token.new self.new }
     {
         match kind {
-            TokenKind::End(Family::Caption) => self.close_caption(Flow::Done, at),
-            TokenKind::Start(
-                Family::Caption
-                | Family::Col
-                | Family::Colgroup
-                | Family::TableSection
-                | Family::Cell
-                | Family::Row,
-            ) => self.close_caption(Flow::Again, at),
-            TokenKind::End(Family::Table) => self.close_caption(Flow::Again, at),
-            TokenKind::End(
-                Family::Body
-                | Family::Col
-                | Family::Colgroup
-                | Family::Html
-                | Family::TableSection
-                | Family::Cell
-                | Family::Row,
-            ) => self.ignore(Mode::InCaption, at),
+            End(Caption) => self.close_caption(Flow::Done, at),
+            End(Table) | Start(Caption | Col | Colgroup | TableSection | Cell | Row) => {
+                self.close_caption(Flow::Again, at)
+            }
+            End(Body | Col | Colgroup | Html | TableSection | Cell | Row) => {
+                self.ignore(Mode::InCaption, at)
+            }
             _ => self.in_body(kind, token, at),
         }
     }
@@ -54,20 +41,17 @@ impl<'q> TreeConstruction<'q> {
         Ok(flow)
     }
 
-    /// The "in column group" insertion mode (`#parsing-main-incolgroup`).
     pub(crate) fn in_column_group(&mut self, kind: TokenKind, token: &mut Token, at: u64) -> Ruling
         ensures { Performs at (in_column_group kind) token.old self.old result token.new self.new }
     {
         match kind {
-            TokenKind::Ws => self.put(token, at),
-            TokenKind::Comment => self.insert_comment(token, at),
-            TokenKind::Start(Family::Html) => self.html_again(token, at),
-            TokenKind::Start(Family::Col) => done(self.void(token, at)),
-            TokenKind::End(Family::Colgroup) => self.pop_and_go(Mode::InTable, Flow::Done),
-            TokenKind::Doctype | TokenKind::End(Family::Col | Family::Template) => {
-                self.ignore(Mode::InColumnGroup, at)
-            }
-            TokenKind::Eof => done(self.check_open(at)),
+            Ws => self.put(token, at),
+            Comment => self.insert_comment(token, at),
+            Start(Html) => self.html_again(token, at),
+            Start(Col) => done(self.void(token, at)),
+            End(Colgroup) => self.pop_and_go(Mode::InTable, Flow::Done),
+            Doctype | End(Col | Template) => self.ignore(Mode::InColumnGroup, at),
+            Eof => done(self.check_open(at)),
             _ => self.pop_and_go(Mode::InTable, Flow::Again),
         }
     }

@@ -3,23 +3,22 @@
 ghost use Rattle.hmodes.specs.Vocabulary.{IsSound, numbers, ◌▸◌, again, Start, End, Performs, AlwaysPerforms};
 ghost use Rattle.hmodes.specs.Vocabulary.{in_cell, close_cell};
 
-use crate::family::Family;
+use crate::family::Family::*;
 use crate::mode::Mode;
 use crate::token::token_name;
-use crate::token_kind::TokenKind;
+use crate::token_kind::TokenKind::{self, *};
 use crate::tree_construction::{Flow, Ruling, TreeConstruction};
 use hadopt::Passing;
 use hopen::{Group, Scope};
 use htoken::Token;
 
 impl<'q> TreeConstruction<'q> {
-    /// The "in cell" insertion mode (`#parsing-main-intd`).
     pub(crate) fn in_cell(&mut self, kind: TokenKind, token: &mut Token, at: u64) -> Ruling
         requires { IsSound numbers self.old.site }
         ensures { Performs at (in_cell kind) token.old self.old result token.new self.new }
     {
         match kind {
-            TokenKind::End(Family::Cell) => {
+            End(Cell) => {
                 let name = token_name(token);
                 if !self.site.in_scope(Scope::Table, name) {
                     return self.ignore(Mode::InCell, at);
@@ -28,18 +27,9 @@ impl<'q> TreeConstruction<'q> {
                 self.control.mode = Mode::InRow;
                 Ok(Flow::Done)
             }
-            TokenKind::Start(
-                Family::Caption
-                | Family::Col
-                | Family::Colgroup
-                | Family::TableSection
-                | Family::Cell
-                | Family::Row,
-            ) => self.cell_ends(at),
-            TokenKind::End(
-                Family::Body | Family::Caption | Family::Col | Family::Colgroup | Family::Html,
-            ) => self.ignore(Mode::InCell, at),
-            TokenKind::End(Family::Table | Family::TableSection | Family::Row) => {
+            Start(Caption | Col | Colgroup | TableSection | Cell | Row) => self.cell_ends(at),
+            End(Body | Caption | Col | Colgroup | Html) => self.ignore(Mode::InCell, at),
+            End(Table | TableSection | Row) => {
                 if !self.site.in_scope(Scope::Table, token_name(token)) {
                     return self.ignore(Mode::InCell, at);
                 }

@@ -4,41 +4,29 @@ ghost use Rattle.std.specs.Prelude.{◌≡◌, ◌<◌, IfSome};
 ghost use Rattle.hmodes.specs.Vocabulary.{state_of, Performs, AlwaysPerforms, Does};
 ghost use Rattle.hmodes.specs.Vocabulary.{in_head, in_head_noscript, noscript_ends, after_head, body_unwritten, late, removed, error, ended, with_site, ◌▸◌, to, insert, pop, AfterHead, push_head};
 
-use crate::family::Family;
+use crate::family::Family::*;
 use crate::mode::Mode;
-use crate::token_kind::TokenKind;
+use crate::token_kind::TokenKind::{self, *};
 use crate::tree_construction::{Flow, Ruling, TreeConstruction, done};
 use hopen::Open;
 use htoken::Token;
 use names::{Refusal, Tag};
 
 impl<'q> TreeConstruction<'q> {
-    /// The "in head" insertion mode (`#parsing-main-inhead`).
     pub(crate) fn in_head(&mut self, kind: TokenKind, token: &mut Token, at: u64) -> Ruling
         ensures { Performs at (in_head kind) token.old self.old result token.new self.new }
     {
         match kind {
-            TokenKind::Ws => self.put(token, at),
-            TokenKind::Comment => self.insert_comment(token, at),
-            TokenKind::Start(Family::Html) => self.html_again(token, at),
-            TokenKind::Start(Family::Base | Family::HeadVoid) => done(self.void(token, at)),
-            TokenKind::Start(Family::Title | Family::Noframes | Family::Style | Family::Script) => {
-                done(self.raw(token, at))
-            }
+            Ws => self.put(token, at),
+            Comment => self.insert_comment(token, at),
+            Start(Html) => self.html_again(token, at),
+            Start(Base | HeadVoid) => done(self.void(token, at)),
+            Start(Title | Noframes | Style | Script) => done(self.raw(token, at)),
             // The scripting flag (`#scripting-flag`) is disabled.
-            TokenKind::Start(Family::Noscript) => self.insert_and_go(
-                Mode::InHeadNoscript,
-                token,
-                at,
-            ),
-            TokenKind::End(Family::Head) => self.pop_and_go(Mode::AfterHead, Flow::Done),
-            TokenKind::End(Family::Body | Family::Html | Family::Br) => self.pop_and_go(
-                Mode::AfterHead,
-                Flow::Again,
-            ),
-            TokenKind::Doctype | TokenKind::Start(Family::Head) | TokenKind::End(_) => {
-                self.ignore(Mode::InHead, at)
-            }
+            Start(Noscript) => self.insert_and_go(Mode::InHeadNoscript, token, at),
+            End(Head) => self.pop_and_go(Mode::AfterHead, Flow::Done),
+            End(Body | Html | Br) => self.pop_and_go(Mode::AfterHead, Flow::Again),
+            Doctype | Start(Head) | End(_) => self.ignore(Mode::InHead, at),
             _ => self.pop_and_go(Mode::AfterHead, Flow::Again),
         }
     }
@@ -66,16 +54,14 @@ impl<'q> TreeConstruction<'q> {
         ensures { Performs at (in_head_noscript kind) token.old self.old result token.new self.new }
     {
         match kind {
-            TokenKind::Start(Family::Html) => self.html_again(token, at),
-            TokenKind::End(Family::Noscript) => self.pop_and_go(Mode::InHead, Flow::Done),
-            TokenKind::Ws => self.put(token, at),
-            TokenKind::Comment => self.insert_comment(token, at),
-            TokenKind::Start(Family::HeadVoid) => done(self.void(token, at)),
-            TokenKind::Start(Family::Noframes | Family::Style) => done(self.raw(token, at)),
-            TokenKind::End(Family::Br) => self.noscript_ends(at),
-            TokenKind::Doctype
-            | TokenKind::Start(Family::Head | Family::Noscript)
-            | TokenKind::End(_) => self.ignore(Mode::InHeadNoscript, at),
+            Start(Html) => self.html_again(token, at),
+            End(Noscript) => self.pop_and_go(Mode::InHead, Flow::Done),
+            Ws => self.put(token, at),
+            Comment => self.insert_comment(token, at),
+            Start(HeadVoid) => done(self.void(token, at)),
+            Start(Noframes | Style) => done(self.raw(token, at)),
+            End(Br) => self.noscript_ends(at),
+            Doctype | Start(Head | Noscript) | End(_) => self.ignore(Mode::InHeadNoscript, at),
             _ => self.noscript_ends(at),
         }
     }
@@ -90,28 +76,20 @@ impl<'q> TreeConstruction<'q> {
         Ok(Flow::Again)
     }
 
-    /// The "after head" insertion mode (`#the-after-head-insertion-mode`).
     pub(crate) fn after_head(&mut self, kind: TokenKind, token: &mut Token, at: u64) -> Ruling
         requires { IfSome self.old.control.head (λ k. (0 < k) × (k < self.old.site.nodes.made)) }
         ensures { Performs at (after_head kind) token.old self.old result token.new self.new }
     {
         match kind {
-            TokenKind::Ws => self.put(token, at),
-            TokenKind::Comment => self.insert_comment(token, at),
-            TokenKind::Start(Family::Html) => self.html_again(token, at),
-            TokenKind::Start(Family::Body) => self.insert_and_go(Mode::InBody, token, at),
-            TokenKind::Start(
-                Family::Base
-                | Family::HeadVoid
-                | Family::Noframes
-                | Family::Script
-                | Family::Style
-                | Family::Title,
-            ) => self.late(kind, token, at),
-            TokenKind::End(Family::Body | Family::Html | Family::Br) => self.body_unwritten(at),
-            TokenKind::Doctype | TokenKind::Start(Family::Head) | TokenKind::End(_) => {
-                self.ignore(Mode::AfterHead, at)
+            Ws => self.put(token, at),
+            Comment => self.insert_comment(token, at),
+            Start(Html) => self.html_again(token, at),
+            Start(Body) => self.insert_and_go(Mode::InBody, token, at),
+            Start(Base | HeadVoid | Noframes | Script | Style | Title) => {
+                self.late(kind, token, at)
             }
+            End(Body | Html | Br) => self.body_unwritten(at),
+            Doctype | Start(Head) | End(_) => self.ignore(Mode::AfterHead, at),
             _ => self.body_unwritten(at),
         }
     }

@@ -3,10 +3,10 @@
 ghost use Rattle.hmodes.specs.Vocabulary.{in_table, IsSound, numbers, Start, End, insert, pop, Performs, AlwaysPerforms, ended};
 ghost use Rattle.hmodes.specs.Vocabulary.{in_row, close_row};
 
-use crate::family::Family;
+use crate::family::Family::*;
 use crate::mode::Mode;
 use crate::token::token_name;
-use crate::token_kind::TokenKind;
+use crate::token_kind::TokenKind::{self, *};
 use crate::tree_construction::{Flow, Ruling, TreeConstruction, done};
 use hadopt::Passing;
 use hopen::Scope;
@@ -14,28 +14,21 @@ use htoken::Token;
 use names::Tag;
 
 impl<'q> TreeConstruction<'q> {
-    /// The "in row" insertion mode (`#parsing-main-intr`).
     pub(crate) fn in_row(&mut self, kind: TokenKind, token: &mut Token, at: u64) -> Ruling
         requires { IsSound numbers self.old.site }
         ensures { Performs at (in_row kind) token.old self.old result token.new self.new }
     {
         match kind {
-            TokenKind::Start(Family::Cell) => {
+            Start(Cell) => {
                 self.site.pop_past(Passing::Row);
                 self.insert(token, at)?;
                 self.control.mode = Mode::InCell;
                 done(self.site.marker())
             }
-            TokenKind::End(Family::Row) => self.close_row(Flow::Done, at),
-            TokenKind::Start(
-                Family::Caption
-                | Family::Col
-                | Family::Colgroup
-                | Family::TableSection
-                | Family::Row,
-            ) => self.close_row(Flow::Again, at),
-            TokenKind::End(Family::Table) => self.close_row(Flow::Again, at),
-            TokenKind::End(Family::TableSection) => {
+            End(Row) => self.close_row(Flow::Done, at),
+            Start(Caption | Col | Colgroup | TableSection | Row) => self.close_row(Flow::Again, at),
+            End(Table) => self.close_row(Flow::Again, at),
+            End(TableSection) => {
                 if !self.site.in_scope(Scope::Table, token_name(token)) {
                     return self.ignore(Mode::InRow, at);
                 }
@@ -47,14 +40,7 @@ impl<'q> TreeConstruction<'q> {
                 self.control.mode = Mode::InTableBody;
                 Ok(Flow::Again)
             }
-            TokenKind::End(
-                Family::Body
-                | Family::Caption
-                | Family::Col
-                | Family::Colgroup
-                | Family::Html
-                | Family::Cell,
-            ) => self.ignore(Mode::InRow, at),
+            End(Body | Caption | Col | Colgroup | Html | Cell) => self.ignore(Mode::InRow, at),
             _ => self.in_table(kind, token, at),
         }
     }

@@ -7,7 +7,7 @@ ghost use Rattle.hmodes.specs.Vocabulary.{error};
 ghost use Rattle.hnodes.specs.Forest as forest;
 
 use crate::mode::Mode;
-use crate::token_kind::TokenKind;
+use crate::token_kind::TokenKind::{self, *};
 use crate::tree_construction::{Flow, Ruling, TreeConstruction};
 use hnodes::DocumentType;
 use htoken::Token;
@@ -26,7 +26,6 @@ fn is_text(text: &str, found: &Option<String>) -> bool
     }
 }
 
-/// Whether a doctype is no error.
 fn conforms(token: &Token) -> bool
     ensures { result ≡ conforms (token_of token.now) }
 {
@@ -59,14 +58,13 @@ fn take_doctype(alloc: Global, token: &mut Token) -> DocumentType
 }
 
 impl<'q> TreeConstruction<'q> {
-    /// The "initial" insertion mode (`#the-initial-insertion-mode`).
     pub(crate) fn initial(&mut self, kind: TokenKind, token: &mut Token, at: u64) -> Ruling
         ensures { Performs at (initial kind) token.old self.old result token.new self.new }
     {
         match kind {
-            TokenKind::Ws => Ok(Flow::Done),
-            TokenKind::Comment => self.comment_in_document(token, at),
-            TokenKind::Doctype => {
+            Ws => Ok(Flow::Done),
+            Comment => self.comment_in_document(token, at),
+            Doctype => {
                 self.error_unless(conforms(token), Mode::Initial, at)?;
                 let quirks = self.forces_quirks(token);
                 let texts = take_doctype(self.alloc, token);
@@ -84,7 +82,6 @@ impl<'q> TreeConstruction<'q> {
         }
     }
 
-    /// Whether the quirks list has these identifiers.
     fn is_listed(&self, public: Option<&str>, system: Option<&str>) -> bool
         ensures { result ≡ list_matches (option_map_or (λ list. list.now) self.now.quirks_list []) (option_map (λ text. text.now) public.entry)
             (option_map (λ text. text.now) system.entry) }
@@ -95,7 +92,6 @@ impl<'q> TreeConstruction<'q> {
         }
     }
 
-    /// Whether a doctype is one for quirks mode.
     fn forces_quirks(&self, token: &Token) -> bool
         ensures { result ≡ forces_quirks (state_of self.now) (token_of token.now) }
     {

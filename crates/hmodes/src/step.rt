@@ -53,7 +53,6 @@ impl<'q> TreeConstruction<'q> {
         }
     }
 
-    /// Whether a token is the LF that is to be dropped.
     #[inline(always)]
     fn is_dropped(&self, token: &Token) -> bool
         ensures { result ≡ is_dropped (token_of token.now) (state_of self.now) }
@@ -64,7 +63,6 @@ impl<'q> TreeConstruction<'q> {
         }
     }
 
-    /// A token begins.
     #[inline(always)]
     pub(crate) fn begin(&mut self)
         ensures { state_of self.new ≡ step_begun (state_of self.old) }
@@ -99,7 +97,6 @@ impl<'q> TreeConstruction<'q> {
         }
     }
 
-    /// The rule for a kind of token of the mode that holds.
     #[inline(never)]
     fn rule_of_mode(&mut self, kind: TokenKind, token: &mut Token, at: u64) -> Ruling
         requires kept { IsSound numbers self.old.site }

@@ -4,10 +4,10 @@ ghost use Rattle.hmodes.specs.Vocabulary.{in_table, IsSound, numbers, error, Sta
 ghost use Rattle.hmodes.specs.Vocabulary.{in_table_body, section_ends};
 ghost use Rattle.hmodes.specs.declared.family.Family.TheVariants as family;
 
-use crate::family::Family;
+use crate::family::Family::*;
 use crate::mode::Mode;
 use crate::token::token_name;
-use crate::token_kind::TokenKind;
+use crate::token_kind::TokenKind::{self, *};
 use crate::tree_construction::{Flow, Ruling, TreeConstruction};
 use hadopt::Passing;
 use hopen::{Group, Scope};
@@ -15,31 +15,21 @@ use htoken::Token;
 use names::Tag;
 
 impl<'q> TreeConstruction<'q> {
-    /// The "in table body" insertion mode (`#parsing-main-intbody`).
     pub(crate) fn in_table_body(&mut self, kind: TokenKind, token: &mut Token, at: u64) -> Ruling
         requires { IsSound numbers self.old.site }
         ensures { Performs at (in_table_body kind) token.old self.old result token.new self.new }
     {
         match kind {
-            TokenKind::Start(Family::Row) => {
+            Start(Row) => {
                 self.site.pop_past(Passing::Body);
                 self.insert_and_go(Mode::InRow, token, at)
             }
-            TokenKind::Start(Family::Cell) => self.row_unwritten(at),
-            TokenKind::End(Family::TableSection) => self.end_section(token, at),
-            TokenKind::Start(
-                Family::Caption | Family::Col | Family::Colgroup | Family::TableSection,
-            ) => self.section_ends(at),
-            TokenKind::End(Family::Table) => self.section_ends(at),
-            TokenKind::End(
-                Family::Body
-                | Family::Caption
-                | Family::Col
-                | Family::Colgroup
-                | Family::Html
-                | Family::Cell
-                | Family::Row,
-            ) => self.ignore(Mode::InTableBody, at),
+            Start(Cell) => self.row_unwritten(at),
+            End(TableSection) => self.end_section(token, at),
+            End(Table) | Start(Caption | Col | Colgroup | TableSection) => self.section_ends(at),
+            End(Body | Caption | Col | Colgroup | Html | Cell | Row) => {
+                self.ignore(Mode::InTableBody, at)
+            }
             _ => self.in_table(kind, token, at),
         }
     }

@@ -1,6 +1,6 @@
 //! The "in table text" insertion mode (HTML Standard, `#parsing-main-intabletext`), and characters of text, one alone or a run.
 
-ghost use Rattle.std.specs.Prelude.{◌≡◌, List, ◌+◌, ◌≤◌, ◌++◌, ◌&&◌, [], not, true, false, if◌then◌else◌, length, map, OnOk, IfErr, string_bytes, encode_utf8_all};
+ghost use Rattle.std.specs.Prelude.{◌≡◌, List, ◌+◌, ◌≤◌, ◌++◌, ◌&&◌, [], true, false, if◌then◌else◌, length, map, OnOk, IfErr, string_bytes, encode_utf8_all};
 ghost use Rattle.std.specs.List.{list_all};
 ghost use Rattle.std.specs.Str.{chars};
 ghost use Rattle.hmodes.specs.Vocabulary.{each_of, with_control, in_table_text, numbers, StateGives, perform, state_of, other_in_table, character, choose, put, Char, each_pending, pend, pending_rule, pending_is_ws, is_space, Performs, Does, Memory, MAX_INPUT, placed};
@@ -8,14 +8,13 @@ ghost use Rattle.hmodes.specs.Vocabulary.{Gives, with_site, Placed, IsTextWithRe
 
 use crate::mode::Mode;
 use crate::token::token_char;
-use crate::token_kind::TokenKind;
+use crate::token_kind::TokenKind::{self, *};
 use crate::tree_construction::{Flow, Ruling, TreeConstruction, done};
 use htoken::Token;
 use names::{Placed, Refusal};
 use std::alloc::AllocError;
 use std::mem;
 
-/// Whether all of them are white space.
 fn are_ws(pending: &[Placed]) -> bool
     ensures { result ≡ list_all (λ c. is_space c.ch) pending.now }
 {
@@ -33,7 +32,7 @@ fn write(text: &mut String, pending: &[Placed]) -> Result<(), AllocError>
     Ok(())
 }
 
-/// Adds the characters of a run, the first byte of which is at `at`.
+/// Adds the characters of a run, the first byte of which is at this place.
 fn push_run(pending: &mut Vec<Placed>, run: &str, at: u64) -> Result<(), Refusal>
     requires { at + length run.now ≤ MAX_INPUT }
     ensures added { OnOk result (pending.new.items ≡ pending.old.items ++ placed at (chars run.now)) }
@@ -49,13 +48,12 @@ fn push_run(pending: &mut Vec<Placed>, run: &str, at: u64) -> Result<(), Refusal
 }
 
 impl<'q> TreeConstruction<'q> {
-    /// The "in table text" insertion mode (`#parsing-main-intabletext`).
     pub(crate) fn in_table_text(&mut self, kind: TokenKind, token: &mut Token, at: u64) -> Ruling
         ensures { Performs at (in_table_text kind) token.old self.old result token.new self.new }
     {
         match kind {
-            TokenKind::Nul => self.ignore(Mode::InTableText, at),
-            TokenKind::Ws | TokenKind::Char => done(self.pend_char(token_char(token), at)),
+            Nul => self.ignore(Mode::InTableText, at),
+            Ws | Char => done(self.pend_char(token_char(token), at)),
             _ => {
                 self.put_pending()?;
                 self.control.mode = self.control.saved;
@@ -64,7 +62,6 @@ impl<'q> TreeConstruction<'q> {
         }
     }
 
-    /// A character is pending.
     #[inline(always)]
     pub(crate) fn pend_char(&mut self, ch: char, at: u64) -> Result<(), Refusal>
         ensures { StateGives result (state_of self.new) (perform numbers at (character ch) pend (state_of self.old)) }
@@ -73,7 +70,6 @@ impl<'q> TreeConstruction<'q> {
         Ok(())
     }
 
-    /// The characters of a run are pending, the first byte of which is at `at`.
     pub(crate) fn pend_run(&mut self, run: &str, at: u64) -> Result<(), Refusal>
         requires { at + length run.now ≤ MAX_INPUT }
         ensures pending { OnOk result (state_of self.new
@@ -83,25 +79,16 @@ impl<'q> TreeConstruction<'q> {
         push_run(&mut self.control.pending, run, at)
     }
 
-    /// All pending characters are put.
     fn put_pending(&mut self) -> Result<(), Refusal>
         ensures { Does 0 (choose pending_is_ws (each_pending put) (each_pending (other_in_table Char))) self.old result self.new }
     {
-        if self.pends_spaces() {
+        if !self.site.fosters() && are_ws(&self.control.pending) {
             return self.put_spaces();
         }
         let pending = self.take_pending();
         self.put_each(pending)
     }
 
-    /// Whether all pending characters are white space, and nothing is foster parented.
-    fn pends_spaces(&self) -> bool
-        ensures { result ≡ (not self.now.site.foster && list_all (λ c. is_space c.ch) self.now.control.pending) }
-    {
-        !self.site.fosters() && are_ws(&self.control.pending)
-    }
-
-    /// Takes the pending characters out.
     fn take_pending(&mut self) -> Vec<Placed>
         ensures taken { result.items ≡ self.old.control.pending }
         ensures rest { state_of self.new ≡ with_control (record self.old.control { pending = [] }) (state_of self.old) }
@@ -140,13 +127,19 @@ impl<'q> TreeConstruction<'q> {
         Ok(())
     }
 
-    /// One of them.
     fn put_one_pending(&mut self, space: bool, ch: char, at: u64) -> Result<(), Refusal>
         ensures { StateGives result (state_of self.new) (perform numbers at (character ch) (pending_rule space) (state_of self.old)) }
     {
         if space {
             return self.put_char(ch, at);
         }
+        self.put_in_table(ch, at)
+    }
+
+    /// By the rules of the body, with foster parenting on.
+    fn put_in_table(&mut self, ch: char, at: u64) -> Result<(), Refusal>
+        ensures { StateGives result (state_of self.new) (perform numbers at (character ch) (other_in_table Char) (state_of self.old)) }
+    {
         self.error(Mode::InTable, at)?;
         self.site.set_foster(true);
         self.put_in_body(ch, at)?;

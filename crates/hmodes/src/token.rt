@@ -69,7 +69,7 @@ pub(crate) fn rename(token: &mut Token, to: NameId)
     }
 }
 
-/// Whether the token has an attribute type that is `hidden`, without ASCII case.
+/// Whether the token has an attribute type that is `hidden`, in capitals or not.
 pub(crate) fn is_hidden(token: &Token) -> bool
     ensures { result ≡ list_any (is_hidden numbers) (token_attrs (token_of token.now)) }
 {
@@ -79,14 +79,12 @@ pub(crate) fn is_hidden(token: &Token) -> bool
     }
 }
 
-/// Whether one of them is an attribute type that is `hidden`.
 fn has_hidden(attrs: &[Attr]) -> bool
     ensures { result ≡ list_any (λ a. is_hidden numbers (attribute_of a)) attrs.now }
 {
     attrs.iter().any(|attr| is_hidden_type(attr))
 }
 
-/// Whether it is an attribute type that is `hidden`.
 fn is_hidden_type(attr: &Attr) -> bool
     ensures { result ≡ is_hidden numbers (attribute_of attr.now) }
 {

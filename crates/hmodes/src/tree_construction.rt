@@ -71,7 +71,6 @@ pub(crate) struct TreeConstruction<'q> {
 /// What a rule answers: how it ends, or a refusal.
 pub(crate) type Ruling = Result<Flow, Refusal>;
 
-/// A rule ends with its last step.
 pub(crate) fn done(last: Result<(), Refusal>) -> Ruling
     ensures { (t : TokenOf ℕ) (s : StateOf ℕ) (f : FlowOf ℕ) → StateGives last s f → FlowGives result t s f }
 {

@@ -16,7 +16,6 @@ use htoken::Token;
 use names::{NameId, Refusal, Tag};
 
 impl<'q> TreeConstruction<'q> {
-    /// One more parse error, by the rules of a mode.
     pub(crate) fn error(&mut self, mode: Mode, at: u64) -> Result<(), Refusal>
         ensures done { Does at (error mode) self.old result self.new }
         ensures kept { IsSound numbers self.old.site → IfOk result (λ _. IsSound numbers self.new.site) }
@@ -24,14 +23,13 @@ impl<'q> TreeConstruction<'q> {
         self.site.error(mode.code(), at)
     }
 
-    /// A parse error, by the rules of a mode, and the token is ignored.
+    /// A parse error, and the token is ignored.
     pub(crate) fn ignore(&mut self, mode: Mode, at: u64) -> Ruling
         ensures { AlwaysPerforms at (error mode) self.old result self.new }
     {
         done(self.error(mode, at))
     }
 
-    /// A parse error, by the rules of a mode, unless this holds.
     #[inline(always)]
     pub(crate) fn error_unless(&mut self, holds: bool, mode: Mode, at: u64) -> Result<(), Refusal>
         ensures { StateGives result (state_of self.new) (if holds then DoneOf (state_of self.old) else performed at (error mode) (state_of self.old)) }
@@ -78,7 +76,6 @@ impl<'q> TreeConstruction<'q> {
         Ok(Flow::Done)
     }
 
-    /// A comment last in the document.
     pub(crate) fn comment_in_document(&mut self, token: &mut Token, at: u64) -> Ruling
         ensures done { Performs at comment_in_document token.old self.old result token.new self.new }
     {
@@ -88,7 +85,6 @@ impl<'q> TreeConstruction<'q> {
         Ok(Flow::Done)
     }
 
-    /// A comment last in the first open node.
     pub(crate) fn comment_in_first(&mut self, token: &mut Token, at: u64) -> Ruling
         ensures done { Performs at comment_in_first token.old self.old result token.new self.new }
     {
@@ -98,7 +94,6 @@ impl<'q> TreeConstruction<'q> {
         Ok(Flow::Done)
     }
 
-    /// The token's character at the appropriate place.
     pub(crate) fn put(&mut self, token: &Token, at: u64) -> Ruling
         ensures { Performs at put token.now self.old result token.now self.new }
     {
@@ -156,7 +151,6 @@ impl<'q> TreeConstruction<'q> {
         Ok(())
     }
 
-    /// Closes an open p in button scope.
     #[inline(always)]
     pub(crate) fn close_p_in_scope(&mut self, at: u64) -> Result<(), Refusal>
         ensures done { Does at close_p_in_scope self.old result self.new }
@@ -199,9 +193,9 @@ impl<'q> TreeConstruction<'q> {
     pub(crate) fn current_node(&self) -> NodeId
         ensures { result ≡ current_node self.now.site }
     {
-        match self.site.current() {
-            Some(open_node) => open_node.node,
-            None => self.site.tree().document(),
-        }
+        let document = self.site.tree().document();
+        self.site
+            .current()
+            .map_or(document, |open_node| open_node.node)
     }
 }

@@ -1,5 +1,5 @@
-use Rattle.hmodes.proofs.Vocabulary.{ℕ, inl, inr, ap, ◌∙◌, length, nat_le, SiteOf, stack}
-use Rattle.hmodes.proofs.Root.{above_one, above_none, fits}
+use Rattle.hmodes.proofs.Vocabulary.{ℕ, arith, inl, inr, ap, ◌∙◌, length, nat_le, SiteOf, stack}
+use Rattle.hmodes.proofs.Root.{above, fits}
 use Rattle.hmodes.proofs.beginning.fragment_site.Goals as goal
 
 pub returns-in-Err : goal.returns-in-Err
@@ -8,6 +8,6 @@ returns-in-Err c =
     elim c.in-Err.ensures.done [
       | inl m ↦ m
       | inr wrong ↦ absurd (fits _ _ _ _ c.in_ok-site.site _
-          (ap (λ (s : SiteOf ℕ). nat_le s.nodes.limit s.nodes.made) is ∙ above_one c.nodes.result c.nodes.ensures.some)
-          (ap (λ (s : SiteOf ℕ). nat_le s.open_nodes.limit (length (stack s))) is ∙ above_none c.depth.result c.depth.ensures.some) wrong)
+          (ap (λ (s : SiteOf ℕ). nat_le s.nodes.limit s.nodes.made) is ∙ above 1 c.nodes.result (omega arith) c.nodes.ensures.some)
+          (ap (λ (s : SiteOf ℕ). nat_le s.open_nodes.limit (length (stack s))) is ∙ above 0 c.depth.result (omega arith) c.depth.ensures.some) wrong)
     ]

@@ -1,6 +1,5 @@
 use borrow.Author.Tests.{tests}
-use Rattle.std.proofs.Common.{rules}
-use Rattle.hmodes.proofs.Vocabulary.{◌≡◌, ◌⊎◌, Memory, Refused, performed_for, subst, when, ℕ, Some, ap, ◌∙◌, sym, nat_eq, option_map, find_entry, without_entry, TreeInBody, SiteOf, with_items, with_error, with_site, State, Done, state_of, end, Do, ◌▸◌, name_is_listed, error, adopt_listed, InBody}
+use Rattle.hmodes.proofs.Vocabulary.{◌≡◌, ◌⊎◌, Memory, Refused, performed_for, subst, when, ℕ, Some, ap, ◌∙◌, sym, nat_eq, option_map, find_entry, without_entry, TreeInBody, SiteOf, with_items, with_error, with_site, State, Done, state_of, end, Do, ◌▸◌, name_is_listed, error, adopt_listed, InBody, rules}
 use Rattle.hmodes.proofs.Flowing.{goes-on, refused-as, err-state, listed-refused, listed-done}
 use Rattle.hmodes.proofs.Ways.{when-so, when-not}
 use Rattle.hmodes.proofs.tree_construction.TreeConstruction.close_listed.Goals as goal

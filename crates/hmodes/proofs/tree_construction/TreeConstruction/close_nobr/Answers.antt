@@ -1,6 +1,5 @@
 use borrow.Author.Tests.{tests}
-use Rattle.std.proofs.Common.{rules}
-use Rattle.hmodes.proofs.Vocabulary.{◌≡◌, ◌⊎◌, Memory, Done, Refused, performed_for, when, ℕ, ap, ◌∙◌, Default, Err, subst, sym, numbers, adopted, reconstructed, StateGives, State, Flow, flow_of, with_site, perform, state_of, end, Do, ◌▸◌, has_in, error, adopt, reconstruct, InBody}
+use Rattle.hmodes.proofs.Vocabulary.{◌≡◌, ◌⊎◌, Memory, Done, Refused, performed_for, when, ℕ, ap, ◌∙◌, Default, Err, subst, sym, numbers, adopted, reconstructed, StateGives, State, Flow, flow_of, with_site, perform, state_of, end, Do, ◌▸◌, has_in, error, adopt, reconstruct, InBody, rules}
 use Rattle.names.specs.declared.tag.Tag.TheVariants.{Nobr}
 use Rattle.hmodes.proofs.Flowing.{on-site, goes-on, refused-then, refused-as, err-state}
 use Rattle.hmodes.proofs.Ways.{when-so, when-not}

@@ -1,19 +1,7 @@
-use Rattle.hmodes.proofs.Vocabulary.{◌≡◌, ℕ, [], sym, subst, ap, ◌∙◌, ◌⊎◌, Memory, numbers, SiteOf, perform, flow_of, with_site, on_site, inserted_here, State, Done, Refused, state_of, ◌▸◌, error, reconstruct, insert_named, pop, InBody}
+use Rattle.hmodes.proofs.Vocabulary.{◌≡◌, ℕ, [], sym, subst, ap, ◌∙◌, numbers, SiteOf, flow_of, with_site, on_site, inserted_here, State, Done, state_of, ◌▸◌, error, reconstruct, insert_named, pop, InBody}
 use Rattle.names.specs.declared.tag.Tag.TheVariants.{Br}
-use Rattle.hmodes.proofs.Flowing.{goes-on, refused-as, refused-then, err-flow}
+use Rattle.hmodes.proofs.Flowing.{goes-on}
 use Rattle.hmodes.proofs.tree_construction.TreeConstruction.end_br.Goals as goal
-
-pub returns-in_err-insert_named : goal.returns-in_err-insert_named
-returns-in_err-insert_named c = λ t.
-    let e = c.in_err-insert_named.field-0.0 in
-    let s = state_of c.error.new.self in
-    let s' : State ℕ = with_site c.reconstruct.new.self s in
-    err-flow c.from_residual-in_err-insert_named.result e _ _ _ c.from_residual-in_err-insert_named.ensures.1
-    (refused-as e _ _
-    (goes-on c.args.at t (error InBody) (reconstruct ▸ insert_named Br ▸ pop) (state_of c.args.self.now) s c.in_ok-error.ensures.done
-    ∙ goes-on c.args.at t reconstruct (insert_named Br ▸ pop) s s' (ap (flow_of s) c.in_ok-reconstruct.ensures.done))
-    (refused-then e _ (perform numbers c.args.at t pop)
-    (subst (λ (m : ℕ). (e ≡ Memory) ⊎ (on_site (inserted_here numbers c.args.at m []) s' ≡ Refused e)) c.number.ensures.number c.in_err-insert_named.ensures.done)))
 
 pub returns : goal.returns
 returns c = λ t.
