@@ -1,7 +1,6 @@
 -- What comes of a call that is passed up.
-use Rattle.html_c.proofs.Names.{◌≡◌, ℕ, Bool, true, List, [], Result, Ok, Err, sym, subst, IsErrAnd, if◌then◌else◌, Refusal, CallFault, Fitted}
+use Rattle.html_c.proofs.Names.{◌≡◌, ℕ, Result, Ok, Err, sym, subst, IsErrAnd, CallFault}
 use Rattle.std.proofs.Common.{MatchResult}
-use Rattle.html_c.specs.Fitted.{IsFitted}
 use Rattle.html_c.specs.Given.{GivesNothing, no_size, of_size}
 
 pub fails : {T : Type 0} (r : Result T CallFault) (f : CallFault) (P : T → Type 0) (Q : CallFault → Type 0) → IsErrAnd r (λ g. g ≡ f) → Q f → MatchResult r P Q
@@ -9,14 +8,9 @@ fails (Ok x) f P Q is h = absurd is
 fails (Err g) f P Q is h = subst Q (sym is) h
 
 -- reasons that are among others
-pub reasons : (size : ℕ) (P Q : CallFault → Type 0) (why : CallFault) → ((f : CallFault) → P f → Q f) → GivesNothing size P why → GivesNothing size Q why
-reasons size P Q why among (no_size is) = no_size is
-reasons size P Q why among (of_size is because) = of_size is (among why because)
-
--- a text that is wanted
-pub fitted : (wanted : Bool) (room : ℕ) (text : List ℕ) (old : Fitted) (r : Result Fitted Refusal) → wanted ≡ true → old.room ≡ room → IsFitted old.room text r
-    → IsFitted room (if wanted then text else []) r
-fitted wanted room text old r is same h = rw is (subst (λ n. IsFitted n text r) same h)
+pub reasons : {size : ℕ} {P Q : CallFault → Type 0} {why : CallFault} → ((f : CallFault) → P f → Q f) → GivesNothing size P why → GivesNothing size Q why
+reasons among (no_size is) = no_size is
+reasons {why = why} among (of_size is because) = of_size is (among why because)
 
 -- the same of what is said of the whole outcome
 pub passed : {T : Type 0} (r : Result T CallFault) (f : CallFault) (P : Result T CallFault → Type 0) → IsErrAnd r (λ g. g ≡ f) → P (Err f) → P r

@@ -1,5 +1,5 @@
 -- Tables of character references, by what says them.
-use Rattle.html_c.proofs.Names.{◌≡◌, ◌∙◌, ℕ, List, Result, Ok, Err, inl, inr, ap, length, refl, subst, sym, Refusal, table_of_json, ReadsQuirks, ParseOptions, AllowsContext, IsPieceSize, Tells, context_told, ReadsTableBytes, Given}
+use Rattle.html_c.proofs.Names.{◌≡◌, ◌∙◌, ℕ, List, Result, Ok, Err, inl, inr, ap, length, refl, rules, subst, sym, Refusal, table_of_json, ReadsQuirks, ParseOptions, AllowsContext, IsPieceSize, Tells, context_told, ReadsTableBytes, Given}
 use Rattle.std.specs.Prelude.{◌↔◌, nat_le}
 use Rattle.names.specs.declared.refusal.TableFault.{TableFault}
 use Rattle.htext.specs.declared.decoder.TheConstants.{MAX_INPUT}
@@ -20,17 +20,17 @@ refused_json bytes e (Ok table) read is memory = table_ran_out (ap (λ (x : Refu
 refused_json bytes e (Err cause) read is (inl memory) = table_ran_out (ap (λ (x : Refusal). Err (fault.Refused x)) memory)
 refused_json bytes e (Err cause) read is (inr its) = no_json cause is read (ap (λ (x : Refusal). Err (fault.Refused x)) its)
 
-pub json_refused : (bytes text : List ℕ) (e : Refusal) → table_form bytes ≡ Json → text ≡ bytes → IsRefusedWith (table_of_json text) e → ReadsTableBytes bytes (Err (fault.Refused e))
-json_refused bytes text e is same refused = refused_json bytes e (table_of_json bytes) refl is (subst (λ t. IsRefusedWith (table_of_json t) e) same refused)
+pub json_refused : {bytes text : List ℕ} {e : Refusal} → table_form bytes ≡ Json → text ≡ bytes → IsRefusedWith (table_of_json text) e → ReadsTableBytes bytes (Err (fault.Refused e))
+json_refused {bytes} {e = e} is same refused = refused_json bytes e (table_of_json bytes) refl is (subst (λ t. IsRefusedWith (table_of_json t) e) same refused)
 
 -- the table of a form is what is read
-pub table_is : (bytes : List ℕ) (table : Entities) (f : TableForm) → table_form bytes ≡ f → IsTableOf f bytes table → ReadsTableBytes bytes (Ok table)
-table_is bytes table f is its = table_read table (subst (λ (x : TableForm). IsTableOf x bytes table) (sym is) its) refl
+pub table_is : {bytes : List ℕ} {table : Entities} (f : TableForm) → table_form bytes ≡ f → IsTableOf f bytes table → ReadsTableBytes bytes (Ok table)
+table_is {bytes} {table} f is its = table_read table (subst (λ (x : TableForm). IsTableOf x bytes table) (sym is) its) refl
 
 -- with the bytes that are its flat form
-pub answered : (bytes old new flat : List ℕ) (answer : Answer) (table : Entities) → ReadsTableBytes bytes (Ok table) → IsReadable table → flat ≡ flat_of table
+pub answered : {bytes old new flat : List ℕ} {answer : Answer} {table : Entities} → ReadsTableBytes bytes (Ok table) → IsReadable table → flat ≡ flat_of table
     → new ≡ put_over (nat_le (length flat) (length old)) flat old → answer ≡ room_answer (nat_le (length flat) (length old)) (length flat) 0 → AnswersTable bytes old new answer
-answered bytes old new flat answer table read readable is put its =
+answered {old = old} {new} {answer = answer} {table} read readable is put its =
     table_answered table read readable (subst (λ t. new ≡ put_over (nat_le (length t) (length old)) t old) is put)
     (subst (λ t. answer ≡ room_answer (nat_le (length t) (length old)) (length t) 0) is its)
 
@@ -58,16 +58,7 @@ told given other opts same read t = record {
 }
 
 flipped : (given other : Given) → AreSameButTables given other → AreSameButTables other given
-flipped given other same = record {
-  size = sym same.size;
-  context = sym same.context;
-  quirks = sym same.quirks;
-  nodes = sym same.nodes;
-  depth = sym same.depth;
-  piece = sym same.piece;
-  escaping = sym same.escaping;
-  bad_bytes = sym same.bad_bytes;
-}
+flipped given other same = search (rules, sym)
 
 module _ (one : (table other : Entities) → IsReadable table → IsReadable other → flat_of table ≡ flat_of other → table ≡ other) where
   one_of : (f : TableForm) (bytes : List ℕ) (table other : Entities) → IsTableOf f bytes table → IsTableOf f bytes other → table ≡ other
@@ -82,7 +73,7 @@ module _ (one : (table other : Entities) → IsReadable table → IsReadable oth
   pub same_told : (given flat : Given) (table : Entities) (opts : ParseOptions) → ReadsTableBytes given.entities.now (Ok table) → IsReadable table
       → flat.entities.now ≡ flat_of table → AreSameButTables given flat → Tells given opts ↔ Tells flat opts
   same_told given flat table opts read readable is same =
-      let its = subst (λ bs. ReadsTableBytes bs (Ok table)) (sym is) (table_is (flat_of table) table Flat refl (readable, refl)) in (
+      let its = subst (λ bs. ReadsTableBytes bs (Ok table)) (sym is) (table_is Flat refl (readable, refl)) in (
         λ t. told given flat opts same (subst (λ (x : Entities). ReadsTableBytes flat.entities.now (Ok x)) (one_read given.entities.now table opts.table read t.table) its) t,
         λ t. told flat given opts (flipped given flat same) (subst (λ (x : Entities). ReadsTableBytes given.entities.now (Ok x)) (one_read flat.entities.now table opts.table its t.table) read) t,
       )

@@ -45,6 +45,6 @@ module _ (context : Option (List ℕ)) (prints : List ℕ → Result (List ℕ) 
     gives_text (ran allows run) = text_came run
 
     -- and else why there is none, unless the writer failed
-    pub gives_none : (e : Refusal) → (e ≡ Write → ⊥) → RanIn (Err e) → ComesToNone prints input e
-    gives_none e other (context_refused refuses is unread unwritten) = absurd (refuses allowed)
-    gives_none e other (ran allows run) = elim (none_came e run) [ inl is ↦ absurd (other is) | inr none ↦ none ]
+    pub gives_none : {e : Refusal} → (e ≡ Write → ⊥) → RanIn (Err e) → ComesToNone prints input e
+    gives_none other (context_refused refuses is unread unwritten) = absurd (refuses allowed)
+    gives_none {e} other (ran allows run) = elim (none_came e run) [ inl is ↦ absurd (other is) | inr none ↦ none ]

@@ -1,5 +1,5 @@
 -- What a reading does whose reads do not fail, and the rows of what it gives.
-use Rattle.html_c.proofs.Names.{◌≡◌, ℕ, List, [], ◌∷◌, ◌++◌, Option, Some, None, Result, Ok, Err, inl, inr, sym, subst, map, ap, ap₂, ◌∙◌, refl, append-nil, Bool, IsErrAnd, Refusal, Memory, text_of, Forest, none, tree, children_of, mapped, kind_in, Parsed, ParseOptions, AllowsContext, case_in, ComesToNone, none_for_memory, none_of_bytes, kind_number, link_to, rows_of, words_of, ComesToParse, GivesParse, Given}
+use Rattle.html_c.proofs.Names.{◌≡◌, ℕ, List, [], ◌∷◌, ◌++◌, Option, Some, None, Result, Ok, Err, inl, inr, sym, subst, map, ap, ap₂, ◌∙◌, refl, append-nil, Bool, IsErrAnd, Refusal, Memory, text_of, Forest, none, tree, children_of, mapped, kind_in, left_in, Parsed, ParseOptions, AllowsContext, case_in, none_for_memory, none_of_bytes, kind_number, link_to, rows_of, words_of, ComesToParse, GivesParse, Given}
 use Rattle.std.specs.Prelude.{◌⊎◌}
 use Rattle.names.specs.declared.refusal.Refusal.TheVariants.{BadContext}
 use Rattle.hnodes.specs.Forest.{What, document, doctype, element, comment, text}
@@ -12,25 +12,22 @@ use Rattle.hparse.specs.Parsing.{AnswersParse}
 use Rattle.hparse.specs.Reader.{ReadsInput, reading_ran_out, reading_failed, reading_stopped, read_to_end}
 use Rattle.hwrite.proofs.Printed.{children_are}
 use Rattle.html_c.specs.Exports.{GivesRows, case_given}
+use Rattle.html_c.specs.declared.input.Input.{Input}
 use Rattle.html_c.specs.Rows.{origin_at, origins_of}
 use Rattle.html_c.specs.Trees.{parsed_rows, parsed_words}
 
-module _ {S : Type 0} (left : S → List ℕ) (opts : ParseOptions) (context : Option (List ℕ)) (unrefused : List ℕ → Type 0) (piece : ℕ) (source source' : S) where
-  answered : (bytes : List ℕ) (answer : Result Parsed Refusal) → left source ≡ bytes → AnswersParse opts (case_in context) bytes answer → ComesToParse opts context (left source) answer
-  answered bytes (Ok parsed) is its = subst (λ bs. AnswersParse opts (case_in context) bs (Ok parsed)) (sym is) its
-  answered bytes (Err refusal) is its = none_of_bytes (subst (λ bs. Parses opts (case_in context) bs (Err refusal)) (sym is) its)
+module _ (opts : ParseOptions) (context : Option (List ℕ)) where
+  answered : (source : Input) (bytes : List ℕ) (answer : Result Parsed Refusal) → left_in source ≡ bytes → AnswersParse opts (case_in context) bytes answer → ComesToParse opts context (left_in source) answer
+  answered source bytes (Ok parsed) is its = subst (λ bs. AnswersParse opts (case_in context) bs (Ok parsed)) (sym is) its
+  answered source bytes (Err refusal) is its = none_of_bytes (subst (λ bs. Parses opts (case_in context) bs (Err refusal)) (sym is) its)
 
-  failing : (answer : Result Parsed Refusal) (refusal : Refusal) → answer ≡ Err refusal → ComesToNone (Parses opts (case_in context)) (left source) refusal
-      → ComesToParse opts context (left source) answer
-  failing answer refusal is why = subst (ComesToParse opts context (left source)) (sym is) why
-
-  pub parse_of : (answer : Result Parsed Refusal) → ReadsInput (λ s. Some (left s)) (λ s. 0) (AnswersParse opts (case_in context)) unrefused piece [] source source' answer
-      → ComesToParse opts context (left source) answer
-  parse_of answer (reading_ran_out is unread) = failing answer Memory is (none_for_memory refl)
-  parse_of answer (reading_failed bytes is un gave counted) = absurd cc
-  parse_of answer (reading_stopped refusal before last is un gave from short) =
-      failing answer refusal is (none_of_bytes (subst (λ bs. Parses opts (case_in context) bs (Err refusal)) (sym gave.given) (from (left source'))))
-  parse_of answer (read_to_end bytes un gave end its) = answered bytes answer (gave.given ∙ ap (λ r. bytes ++ r) end ∙ append-nil bytes) its
+  pub parse_of : {unrefused : List ℕ → Type 0} {piece : ℕ} {source source' : Input} {answer : Result Parsed Refusal}
+      → ReadsInput (λ s. Some (left_in s)) (λ s. 0) (AnswersParse opts (case_in context)) unrefused piece [] source source' answer → ComesToParse opts context (left_in source) answer
+  parse_of {source = source} (reading_ran_out is unread) = subst (ComesToParse opts context (left_in source)) (sym is) (none_for_memory refl)
+  parse_of (reading_failed bytes is un gave counted) = absurd cc
+  parse_of {source = source} {source'} (reading_stopped refusal before last is un gave from short) =
+      subst (ComesToParse opts context (left_in source)) (sym is) (none_of_bytes (subst (λ bs. Parses opts (case_in context) bs (Err refusal)) (sym gave.given) (from (left_in source'))))
+  parse_of {source = source} {answer = answer} (read_to_end bytes un gave end its) = answered source bytes answer (gave.given ∙ ap (λ r. bytes ++ r) end ∙ append-nil bytes) its
 
 module _ {N M : Type 0} (g : N → M) where
   same_first : (f : Forest N) → first_or (mapped g f) None ≡ first_or f None
@@ -63,8 +60,8 @@ module _ {N M : Type 0} (g : N → M) where
   pub same_origins : (list : List Origin) (f : Forest N) → origins_of list (mapped g f) ≡ origins_of list f
   same_origins list f = ap (map (origin_at list)) (same_order f)
 
-pub some_rows : (input : List ℕ) (given : Given) (places : Bool) (parsed : Parsed) → GivesParse input given places parsed → GivesRows input given (parsed_rows parsed) (parsed_words parsed)
-some_rows input given places parsed h =
+pub some_rows : {input : List ℕ} {given : Given} {places : Bool} {parsed : Parsed} → GivesParse input given places parsed → GivesRows input given (parsed_rows parsed) (parsed_words parsed)
+some_rows {given = given} {parsed = parsed} h =
     let (parse, is, parses, told) = h.answers in let its = case_given given in
     record {
       opts = h.opts;

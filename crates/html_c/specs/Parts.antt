@@ -5,4 +5,4 @@ use Rattle.html_c.specs.Trees.{parsed_parts}
 use Rattle.html_c.specs.declared.page.Page.{Page}
 
 abbrev pub page_parts : Page → Parts
-page_parts page = parsed_parts page.tree.parsed page.has_errors (fitted_text page.text)
+page_parts page = parsed_parts page.tree.parsed page.wants.errors (fitted_text page.text)

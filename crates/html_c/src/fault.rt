@@ -28,64 +28,36 @@ impl From<Refusal> for CallFault {
 }
 
 impl CallFault {
-    /// Its number.
-    pub(crate) fn status(self) -> u32
-        ensures { result ≡ call_fault_status self }
+    /// Its number, that of what it names, from 1, and its byte or its line; 0 where there is none.
+    pub(crate) fn told(self) -> (u32, u32, u64)
+        ensures { result ≡ (call_fault_status self, fault_detail self, at_of self) }
     {
         match self {
-            CallFault::Refused(refusal) => refusal_number(refusal),
-            CallFault::NotText => 14,
-            CallFault::BadNumber => 15,
+            CallFault::Refused(refusal) => refusal_told(refusal),
+            CallFault::NotText => (14, 0, 0),
+            CallFault::BadNumber => (15, 0, 0),
             // 16 is of the header alone.
-            CallFault::BadSize => 17,
-        }
-    }
-
-    /// The number of what it names, from 1, or 0.
-    pub(crate) fn detail(self) -> u32
-        ensures { result ≡ fault_detail self }
-    {
-        match self {
-            CallFault::Refused(Refusal::OutOfProfile { name, .. }) => name as u32 + 1,
-            CallFault::Refused(Refusal::BadTable { cause }) => cause as u32 + 1,
-            _ => 0,
-        }
-    }
-
-    /// Its byte or its line, or 0.
-    pub(crate) fn at(self) -> u64
-        ensures { result ≡ at_of self }
-    {
-        match self {
-            CallFault::Refused(
-                Refusal::NotUtf8 { at }
-                | Refusal::OutOfProfile { at, .. }
-                | Refusal::TooLarge { at }
-                | Refusal::TooManyNodes { at }
-                | Refusal::TooDeep { at },
-            ) => at,
-            CallFault::Refused(Refusal::BadQuirks { line }) => line,
-            _ => 0,
+            CallFault::BadSize => (17, 0, 0),
         }
     }
 }
 
-/// The number of a refusal.
-fn refusal_number(refusal: Refusal) -> u32
-    ensures { result ≡ refusal_number refusal }
+/// The same of a refusal.
+fn refusal_told(refusal: Refusal) -> (u32, u32, u64)
+    ensures { result ≡ (refusal_number refusal, fault_detail (fault.Refused refusal), at_of (fault.Refused refusal)) }
 {
     match refusal {
-        Refusal::NotUtf8 { .. } => 1,
-        Refusal::OutOfProfile { .. } => 2,
-        Refusal::TooLarge { .. } => 3,
-        Refusal::TooManyNodes { .. } => 4,
-        Refusal::TooDeep { .. } => 5,
-        Refusal::Memory => 6,
-        Refusal::Read => 7,
-        Refusal::BadContext => 8,
-        Refusal::BadTable { .. } => 9,
-        Refusal::BadQuirks { .. } => 10,
-        Refusal::BadLimits => 11,
-        Refusal::Write => 12,
+        Refusal::NotUtf8 { at } => (1, 0, at),
+        Refusal::OutOfProfile { name, at } => (2, name as u32 + 1, at),
+        Refusal::TooLarge { at } => (3, 0, at),
+        Refusal::TooManyNodes { at } => (4, 0, at),
+        Refusal::TooDeep { at } => (5, 0, at),
+        Refusal::Memory => (6, 0, 0),
+        Refusal::Read => (7, 0, 0),
+        Refusal::BadContext => (8, 0, 0),
+        Refusal::BadTable { cause } => (9, cause as u32 + 1, 0),
+        Refusal::BadQuirks { line } => (10, 0, line),
+        Refusal::BadLimits => (11, 0, 0),
+        Refusal::Write => (12, 0, 0),
     }
 }

@@ -1,6 +1,6 @@
 //! A text of which no more is kept than has room.
 
-ghost use Rattle.std.specs.Prelude.{◌≡◌, ◌≤◌, ◌++◌, ℕ, List, [], length};
+ghost use Rattle.std.specs.Prelude.{◌≡◌, ◌≤◌, ◌++◌, ℕ, List, [], flat_map, length};
 ghost use Rattle.std.specs.Borrow.{ftrue};
 
 use crate::room::put;
@@ -8,6 +8,7 @@ use hserialize::Target;
 use names::Refusal;
 use std::alloc::Global;
 use std::marker::Model;
+use std::slice::from_ref;
 
 /// The length of a text, and its bytes if they fit into a room.
 #[derive(Drop)]
@@ -28,7 +29,6 @@ impl Fitted {
     ghost use Rattle.html_c.specs.Fitted.{fitted_failures, IsFitted, fitted_contents, fitted_text};
     ghost use Rattle.html_c.specs.Room.{put_over};
 
-    /// No text yet.
     pub(crate) fn new(alloc: Global, room: usize) -> Fitted
         ensures empty { fitted_text result ≡ [] }
         ensures room { result.room ≡ room }
@@ -37,7 +37,7 @@ impl Fitted {
             kept: Vec::new(alloc),
             room,
             count: 0,
-            all: History::new(),
+            all: History::with(&[], &[]),
             failures: 0,
         }
     }
@@ -53,7 +53,7 @@ impl Fitted {
         if count <= self.room {
             self.kept.extend_from_slice(bytes).ok()?;
         }
-        self.all = self.all.with(bytes);
+        self.all = History::with(from_ref(&self.all), bytes);
         self.count = count;
         Some(())
     }
@@ -114,16 +114,9 @@ impl Model for History {
 }
 
 impl History {
-    /// Nothing yet.
-    fn new() -> History
-        ensures { result.bytes ≡ [] }
-    {
-        History {}
-    }
-
-    /// The same, and then these bytes.
-    fn with(&self, _bytes: &[u8]) -> History
-        ensures { result.bytes ≡ self.now.bytes ++ _bytes.now }
+    /// Those of earlier ones, and then these.
+    fn with(_earlier: &[History], _bytes: &[u8]) -> History
+        ensures { result.bytes ≡ flat_map (λ earlier. earlier.bytes) _earlier.now ++ _bytes.now }
     {
         History {}
     }

@@ -1,8 +1,9 @@
 //! The options of a call, and its lists.
 
-ghost use Rattle.std.specs.Prelude.{◌≡◌, MatchResult, Ok, Some};
+ghost use Rattle.std.specs.Prelude.{◌≡◌, IsUtf8, MatchResult, Some};
+ghost use Rattle.html_c.specs.declared.fault.CallFault.TheVariants as fault;
 ghost use Rattle.html_c.specs.Table.{Flat, Json, ReadsTableBytes, table_form};
-ghost use Rattle.html_c.specs.Vocabulary.{ReadsQuirks, options_of, own_context, AllowsContext, bad_told, context_told, escaping_told, keys_told, may_be_in, task_told, GivesNothing, HasLists, HasSettings, IsCommand, IsSize, NoCommand, NoEscaping, Settings, Tells, Unmet};
+ghost use Rattle.html_c.specs.Vocabulary.{options_of, own_context, AllowsContext, bad_told, context_told, escaping_told, keys_told, may_be_in, task_told, GivesNothing, HasLists, HasSettings, IsCommand, IsSize, NoCommand, NoEscaping, Settings, Tells, Unmet};
 
 use crate::answer::Given;
 use crate::fault::CallFault;
@@ -24,28 +25,33 @@ const MOST_PIECE: u64 = 65_536;
 /// The first byte of a flat form. No JSON text begins with it; no bytes are the core table.
 const FLAT: u8 = 1;
 
-/// The task of a number.
+/// The tasks that are of documents, or of fragments, alone.
+const TOKENS: u32 = 0;
+
+const PLAIN: u32 = 4;
+
+const PLAIN_DOCUMENT: u32 = 5;
+
 fn task_of(number: u32) -> Option<Task>
     ensures { result ≡ task_told number }
 {
     match number {
-        0 => Some(Task::Tokens),
+        TOKENS => Some(Task::Tokens),
         1 => Some(Task::Tree),
         2 => Some(Task::Errors),
         3 => Some(Task::Write),
-        4 | 5 => Some(Task::Plain),
+        PLAIN | PLAIN_DOCUMENT => Some(Task::Plain),
         _ => None,
     }
 }
 
-/// Whether the task of a number is one for a fragment in this element, or for a document where there is none: 0 and 5 are those of a
-/// document, 4 that of a fragment.
+/// Whether the task of a number is one for a fragment in this element, or for a document where there is none.
 fn may_be_in(number: u32, context: Option<&str>) -> bool
     ensures { result ≡ may_be_in number (own_context context.entry) }
 {
     match context {
-        Some(_) => number != 0 && number != 5,
-        None => number != 4,
+        Some(_) => number != TOKENS && number != PLAIN_DOCUMENT,
+        None => number != PLAIN,
     }
 }
 
@@ -84,7 +90,6 @@ impl<'a> Given<'a> {
         Ok(Settings { context, piece })
     }
 
-    /// The element's name.
     fn context(&self) -> Result<Option<&'a str>, CallFault>
         requires { IsSize self.now.size }
         ensures { let told = context_told self.now.context.now in
@@ -93,16 +98,11 @@ impl<'a> Given<'a> {
         if self.context.is_empty() {
             return Ok(None);
         }
-        match str::from_utf8(self.context) {
-            Ok(name) => {
-                check_context(Some(name))?;
-                Ok(Some(name))
-            }
-            Err(_) => Err(CallFault::NotText),
-        }
+        let name = text_of(self.context)?;
+        check_context(Some(name))?;
+        Ok(Some(name))
     }
 
-    /// What becomes of bytes that are not UTF-8.
     fn bad_bytes(&self) -> Result<BadBytes, CallFault>
         requires { IsSize self.now.size }
         ensures { MatchResult result (λ bad. bad_told self.now.bad_bytes ≡ Some bad) (Unmet self.now) }
@@ -114,7 +114,6 @@ impl<'a> Given<'a> {
         }
     }
 
-    /// How `Write` escapes.
     pub(crate) fn escaping(&self) -> Result<Escaping, CallFault>
         requires { IsSize self.now.size }
         ensures { MatchResult result (λ how. escaping_told self.now.escaping ≡ Some how) (NoEscaping self.now) }
@@ -150,18 +149,6 @@ impl<'a> Given<'a> {
         })
     }
 
-    /// The quirks list.
-    fn quirks(&self, alloc: Global) -> Result<Quirks, CallFault>
-        requires { IsSize self.now.size }
-        ensures { MatchResult result (λ quirks. ReadsQuirks self.now.quirks.now (Ok quirks)) (Unmet self.now) }
-    {
-        match str::from_utf8(self.quirks) {
-            Ok(text) => Ok(Quirks::read(alloc, text)?),
-            Err(_) => Err(CallFault::NotText),
-        }
-    }
-
-    /// The lists that are given, for this input.
     pub(crate) fn lists(&self, alloc: Global, input: &[u8]) -> Result<Lists, CallFault>
         requires { IsSize self.now.size }
         ensures { MatchResult result (HasLists self.now) (Unmet self.now) }
@@ -169,7 +156,7 @@ impl<'a> Given<'a> {
         let bad_bytes = self.bad_bytes()?;
         let limits = Limits::new(MAX_INPUT, self.nodes, self.open)?;
         let table = table_of(alloc, self.entities, input)?;
-        let quirks = self.quirks(alloc)?;
+        let quirks = Quirks::read(alloc, text_of(self.quirks)?)?;
         Ok(Lists {
             table,
             quirks,
@@ -209,7 +196,6 @@ pub(crate) fn table_of(alloc: Global, bytes: &[u8], text: &[u8]) -> Result<Table
     }
 }
 
-/// The table of a flat form.
 fn flat_table(alloc: Global, bytes: &[u8], text: &[u8]) -> Result<Table, CallFault>
     requires { table_form bytes.now ≡ Flat }
     ensures { ReadsTableBytes bytes.now result }
@@ -220,13 +206,19 @@ fn flat_table(alloc: Global, bytes: &[u8], text: &[u8]) -> Result<Table, CallFau
     Ok(table)
 }
 
-/// The table of a JSON text.
 fn json_table(alloc: Global, bytes: &[u8]) -> Result<Table, CallFault>
     requires { table_form bytes.now ≡ Json }
     ensures { ReadsTableBytes bytes.now result }
 {
+    Ok(Table::read(alloc, text_of(bytes)?)?)
+}
+
+/// The text that bytes are, if they are UTF-8.
+fn text_of(bytes: &[u8]) -> Result<&str, CallFault>
+    ensures { MatchResult result (λ text. text.now ≡ bytes.now) (λ why. (IsUtf8 bytes.now → ⊥) × (why ≡ fault.NotText)) }
+{
     match str::from_utf8(bytes) {
-        Ok(text) => Ok(Table::read(alloc, text)?),
+        Ok(text) => Ok(text),
         Err(_) => Err(CallFault::NotText),
     }
 }

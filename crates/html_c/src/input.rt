@@ -1,6 +1,6 @@
 //! An input in memory, as a source.
 
-ghost use Rattle.std.specs.Prelude.{◌≡◌, Some};
+ghost use Rattle.std.specs.Prelude.{Some};
 ghost use Rattle.html_c.specs.Input.{left_in};
 
 use hparse::Source;
@@ -8,16 +8,7 @@ use hparse::Source;
 /// What is left of an input. No read of it fails.
 #[derive(Drop)]
 pub(crate) struct Input<'a> {
-    rest: &'a [u8],
-}
-
-impl<'a> Input<'a> {
-    /// All of it.
-    pub(crate) fn new(bytes: &'a [u8]) -> Input<'a>
-        ensures { left_in result ≡ bytes.now }
-    {
-        Input { rest: bytes }
-    }
+    pub(crate) rest: &'a [u8],
 }
 
 impl<'a> Source for Input<'a> {

@@ -1,9 +1,8 @@
 //! A page: the tree of an input, its parse errors and where its nodes came from as rows, and its HTML, by one parse.
 
-ghost use Rattle.std.specs.Prelude.{◌≡◌, ◌≤◌, if◌then◌else◌, [], true, length, map, None, IfOk, MatchResult};
-ghost use Rattle.html_c.specs.Vocabulary.{parsed_text, IsFitted, all_fit, error_row, page_answer, as_parts, put_parts, wants_told, GivesNoPage, GivesNothing, GivesPage, put_over};
+ghost use Rattle.std.specs.Prelude.{◌≡◌, ◌≤◌, [], true, length, map, IfOk, MatchResult};
+ghost use Rattle.html_c.specs.Vocabulary.{all_fit, error_row, page_answer, as_parts, put_parts, wants_told, GivesNoPage, GivesNothing, GivesPage, put_over};
 ghost use Rattle.html_c.specs.Parts.{page_parts};
-ghost use Rattle.hwrite.specs.declared.command.Task.TheVariants as task;
 
 use crate::answer::{ErrorRow, Given, NodeRow, OriginRow, PageAnswer};
 use crate::fault::CallFault;
@@ -11,9 +10,7 @@ use crate::fitted::Fitted;
 use crate::room::{put_one, status};
 use crate::rows::{Rows, put_origins};
 use crate::tree::parse_of;
-use hparse::Parsed;
-use hwrite::Escaping;
-use names::{ParseError, Refusal};
+use names::ParseError;
 use std::alloc::Global;
 
 /// What is wanted of a page beside its tree.
@@ -28,11 +25,10 @@ pub(crate) struct Wants {
 #[derive(Drop)]
 pub(crate) struct Page {
     pub(crate) tree: Rows,
-    pub(crate) has_errors: bool,
+    pub(crate) wants: Wants,
     pub(crate) text: Fitted,
 }
 
-/// What is wanted, by its number.
 fn wants_of(number: u32) -> Option<Wants>
     ensures { result ≡ wants_told number }
 {
@@ -47,7 +43,6 @@ fn wants_of(number: u32) -> Option<Wants>
     }
 }
 
-/// The row of a parse error.
 fn error_row(error: &ParseError) -> ErrorRow
     ensures { result ≡ error_row error.now }
 {
@@ -70,25 +65,6 @@ fn put_errors(fits: bool, errors: &[ParseError], room: &mut [ErrorRow])
     }
 }
 
-/// What was parsed as HTML, if it is wanted.
-fn html_in(
-    alloc: Global,
-    wanted: bool,
-    escaping: Escaping,
-    parsed: &Parsed,
-    room: usize,
-) -> Result<Fitted, Refusal>
-    ensures { IsFitted room (if wanted then parsed_text escaping task.Write None parsed.now else []) result }
-{
-    let mut text = Fitted::new(alloc, room);
-    if !wanted {
-        return Ok(text);
-    }
-    let answer = parsed.serialize(alloc, escaping, &mut text);
-    text.written(answer)
-}
-
-/// The page of an input.
 pub(crate) fn page_of(
     alloc: Global,
     number: u32,
@@ -107,12 +83,12 @@ pub(crate) fn page_of(
     let escaping = given.escaping()?;
     let parsed = parse_of(alloc, input, given, &settings, wants.origins)?;
     let tree = Rows::of(parsed)?;
-    let text = html_in(alloc, wants.text, escaping, &tree.parsed, room)?;
-    Ok(Page {
-        tree,
-        has_errors: wants.errors,
-        text,
-    })
+    let mut text = Fitted::new(alloc, room);
+    if wants.text {
+        let answer = tree.parsed.serialize(alloc, escaping, &mut text);
+        text = text.written(answer)?;
+    }
+    Ok(Page { tree, wants, text })
 }
 
 impl Page {
@@ -120,7 +96,7 @@ impl Page {
     fn errors(&self) -> &[ParseError]
         ensures { map error_row result.now ≡ (page_parts self.now).errors }
     {
-        if self.has_errors {
+        if self.wants.errors {
             &self.tree.parsed.errors
         } else {
             &[]
@@ -137,25 +113,6 @@ impl Page {
         }
     }
 
-    /// Whether all parts fit their rooms.
-    fn fits(
-        &self,
-        rows: &[NodeRow],
-        words: &[u8],
-        errors: &[ErrorRow],
-        text: &[u8],
-        origins: &[OriginRow],
-    ) -> bool
-        requires { self.now.text.room ≡ length text.now }
-        ensures { result ≡ all_fit (page_parts self.now) (as_parts rows.now words.now errors.now text.now origins.now) }
-    {
-        self.tree.nodes <= rows.len()
-            && self.tree.words <= words.len()
-            && self.errors().len() <= errors.len()
-            && self.text.count <= text.len()
-            && self.origin_count() <= origins.len()
-    }
-
     /// Writes all parts to the beginnings of their rooms, if all of them fit, and answers how long they are.
     pub(crate) fn put(
         &self,
@@ -170,7 +127,11 @@ impl Page {
             ≡ put_parts (page_parts self.now) (as_parts rows.old words.old errors.old text.old origins.old) }
         ensures answer { result ≡ page_answer (all_fit (page_parts self.now) (as_parts rows.old words.old errors.old text.old origins.old)) (page_parts self.now) }
     {
-        let fits = self.fits(rows, words, errors, text, origins);
+        let fits = self.tree.nodes <= rows.len()
+            && self.tree.words <= words.len()
+            && self.errors().len() <= errors.len()
+            && self.text.count <= text.len()
+            && self.origin_count() <= origins.len();
         self.tree.put(fits, rows, words);
         put_errors(fits, self.errors(), errors);
         self.text.put(fits, text);

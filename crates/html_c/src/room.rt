@@ -11,7 +11,6 @@ use crate::rows::Rows;
 /// The status where something does not fit.
 const TOO_SHORT: u32 = 13;
 
-/// The status where everything fits, or something does not.
 pub(crate) fn status(fits: bool) -> u32
     ensures { result ≡ fit_status fits }
 {
@@ -22,10 +21,11 @@ pub(crate) fn status(fits: bool) -> u32
 pub(crate) fn fault_answer(fault: CallFault) -> Answer
     ensures { result ≡ fault_answer fault }
 {
+    let (status, detail, at) = fault.told();
     Answer {
-        status: fault.status(),
-        detail: fault.detail(),
-        at: fault.at(),
+        status,
+        detail,
+        at,
         length: 0,
         nodes: 0,
     }
@@ -35,10 +35,11 @@ pub(crate) fn fault_answer(fault: CallFault) -> Answer
 pub(crate) fn page_fault(fault: CallFault) -> PageAnswer
     ensures { result ≡ page_fault fault }
 {
+    let (status, detail, at) = fault.told();
     PageAnswer {
-        status: fault.status(),
-        detail: fault.detail(),
-        at: fault.at(),
+        status,
+        detail,
+        at,
         nodes: 0,
         words: 0,
         errors: 0,

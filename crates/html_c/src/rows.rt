@@ -2,7 +2,7 @@
 
 ghost use Rattle.std.specs.Prelude.{◌≡◌, ◌<◌, ◌≤◌, ◌⊎◌, true, length, flat_map, map, IfErr, MatchResult};
 ghost use Rattle.names.specs.Names.{text_of};
-ghost use Rattle.html_c.specs.Vocabulary.{Memory, PutsAt, greatest, mapped_attribute, what_of, ended_attribute, ended_word, link_to, parsed_rows, parsed_words, put_over, row_at, words_at, children_of, parsed_origins, origin_at, origins_of};
+ghost use Rattle.html_c.specs.Vocabulary.{Memory, PutsAt, greatest, mapped_attribute, what_of, ended_attribute, ended_word, link_to, parsed_rows, parsed_words, put_over, row_at, words_at, parsed_origins, origin_at};
 
 use crate::answer::{NodeRow, OriginRow};
 use crate::room::{put_at, put_one};
@@ -25,7 +25,6 @@ fn put_word(word: &str, room: &mut [u8], at: usize) -> usize
     put_one(WORD_END, room, end)
 }
 
-/// Puts the words of attributes.
 #[inline(always)]
 fn put_attributes(names: &Names, attrs: Attrs, room: &mut [u8], at: usize) -> usize
     ensures { PutsAt at (flat_map ended_attribute (map (mapped_attribute (text_of names.now)) attrs.entry)) room.old room.new result }
@@ -38,7 +37,6 @@ fn put_attributes(names: &Names, attrs: Attrs, room: &mut [u8], at: usize) -> us
     at
 }
 
-/// Puts the words of a node.
 #[inline(always)]
 fn put_words(tree: &Tree, names: &Names, node: NodeId, room: &mut [u8], at: usize) -> usize
     requires { node < tree.now.made }
@@ -60,7 +58,6 @@ fn put_words(tree: &Tree, names: &Names, node: NodeId, room: &mut [u8], at: usiz
     }
 }
 
-/// The number of a link to a node, or to none.
 fn link_to(node: Option<NodeId>) -> u32
     ensures { result ≡ link_to node }
 {
@@ -70,7 +67,6 @@ fn link_to(node: Option<NodeId>) -> u32
     }
 }
 
-/// The row of a node.
 fn row_at(tree: &Tree, node: NodeId) -> NodeRow
     requires { node < tree.now.made }
     ensures { result ≡ row_at node tree.now.trees }
@@ -160,17 +156,6 @@ fn origin_at(list: &[Origin], node: NodeId) -> OriginRow
     }
 }
 
-/// Puts the rows of what was parsed at the beginning of a room, by such a list. Returns the place after them.
-fn put_listed(parsed: &Parsed, list: &[Origin], room: &mut [OriginRow]) -> usize
-    ensures { PutsAt 0 (origins_of list.now (children_of parsed.now.root parsed.now.tree.trees)) room.old room.new result }
-{
-    let mut at = 0;
-    for node in parsed.tree.descendants(parsed.root) {
-        at = put_one(origin_at(list, node), room, at);
-    }
-    at
-}
-
 /// Writes the rows of what was parsed to the beginning of a room, if the places were asked for, and the rows are to be written.
 pub(crate) fn put_origins(fits: bool, parsed: &Parsed, room: &mut [OriginRow])
     requires { fits ≡ true → length (parsed_origins parsed.now) ≤ length room.old }
@@ -178,7 +163,10 @@ pub(crate) fn put_origins(fits: bool, parsed: &Parsed, room: &mut [OriginRow])
 {
     if fits {
         if let Some(list) = &parsed.places {
-            put_listed(parsed, list, room);
+            let mut at = 0;
+            for node in parsed.tree.descendants(parsed.root) {
+                at = put_one(origin_at(list, node), room, at);
+            }
         }
     }
 }

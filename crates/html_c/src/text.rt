@@ -47,7 +47,7 @@ fn text_in(
         MatchResult result (λ text. prints input.now (Ok (written_in text))) (ComesToNone prints input.now) }
     ensures room { IfOk result (λ text. text.room ≡ room) }
 {
-    let mut source = Input::new(input);
+    let mut source = Input { rest: input };
     let mut target = Fitted::new(alloc, room);
     match run(alloc, command, options, &mut source, &mut target) {
         Ok(()) => Ok(target),

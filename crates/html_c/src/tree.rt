@@ -41,7 +41,6 @@ pub(crate) fn parse_of(
     Ok(parsed?)
 }
 
-/// The same with these options.
 fn parsed(
     alloc: Global,
     settings: &Settings,
@@ -52,6 +51,6 @@ fn parsed(
     ensures { ComesToParse (options_of options.now) (own_context settings.now.context) (input.now) result }
 {
     let parser = parser(alloc, settings.context, options)?;
-    let mut source = Input::new(input);
+    let mut source = Input { rest: input };
     parse_reader(alloc, parser, settings.piece, &mut source)
 }

@@ -8,6 +8,6 @@ pub returns-clause-answers : goal.returns-clause-answers
 returns-clause-answers c = elim c.match-table_of.branch [
   | in-Ok w ↦
       rw (w.output-is, w.answer-is)
-      (answered c.args.entities.now c.args.output.now _ w.as_flat.result.now _ w.in-Ok.table w.in-Ok.ensures w.as_flat.ensures.readable w.as_flat.ensures.flat w.put_bytes.ensures.room w.put_bytes.ensures.answer)
+      (answered w.in-Ok.ensures w.as_flat.ensures.readable w.as_flat.ensures.flat w.put_bytes.ensures.room w.put_bytes.ensures.answer)
   | in-Err w ↦ rw (w.output-is, w.answer-is) (no_table_answered w.in-Err.fault w.in-Err.ensures refl w.fault_answer.ensures)
 ]

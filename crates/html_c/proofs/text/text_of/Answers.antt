@@ -1,32 +1,26 @@
-use Rattle.html_c.proofs.Names.{no_command, of_size, unmet, options_of, own_context, context_told}
-use Rattle.html_c.specs.declared.fault.CallFault.TheVariants as fault
+use Rattle.html_c.proofs.Names.{no_command, of_size, unmet}
 use Rattle.html_c.proofs.Exports.{a_text, allowed, no_text}
 use Rattle.html_c.proofs.Outcomes.{fails, reasons}
 use Rattle.html_c.proofs.text.text_of.Goals as goal
 
 pub returns-in_err-settings-clause-says : goal.returns-in_err-settings-clause-says
-returns-in_err-settings-clause-says c = fails c.from_residual.result c.in_err-settings.field-0.0 _ _ c.from_residual.ensures.1 (reasons _ _ _ _ (λ f why. no_command (unmet why)) c.in_err-settings.ensures)
+returns-in_err-settings-clause-says c = fails _ _ _ _ c.from_residual.ensures.1 (reasons (λ f why. no_command (unmet why)) c.in_err-settings.ensures)
 
 pub returns-in_err-command-clause-says : goal.returns-in_err-command-clause-says
 returns-in_err-command-clause-says c =
-    fails c.from_residual-in_err-command.result c.in_err-command.field-0.0 _ _ c.from_residual-in_err-command.ensures.1
-    (of_size c.in_ok-settings.ensures.size (no_command c.in_err-command.ensures))
+    fails _ _ _ _ c.from_residual-in_err-command.ensures.1 (of_size c.in_ok-settings.ensures.size (no_command c.in_err-command.ensures))
 
 pub returns-in_err-lists-clause-says : goal.returns-in_err-lists-clause-says
 returns-in_err-lists-clause-says c =
-    fails c.from_residual-in_err-lists.result c.in_err-lists.field-0.0 _ _ c.from_residual-in_err-lists.ensures.1
-    (of_size c.in_ok-settings.ensures.size (no_command (unmet c.in_err-lists.ensures)))
+    fails _ _ _ _ c.from_residual-in_err-lists.ensures.1 (of_size c.in_ok-settings.ensures.size (no_command (unmet c.in_err-lists.ensures)))
 
 pub text_in-text-requires-clause-context : goal.text_in-text-requires-clause-context
 text_in-text-requires-clause-context c =
-    let command = c.in_ok-command.command in allowed command.task (own_context command.context) (context_told c.args.given.now.context.now) c.in_ok-command.ensures.context c.in_ok-settings.ensures.allows
+    let command = c.in_ok-command.command in allowed command.task c.in_ok-command.ensures.context c.in_ok-settings.ensures.allows
 
 pub returns-in_err-text-clause-says : goal.returns-in_err-text-clause-says
 returns-in_err-text-clause-says c =
-    fails c.from_residual-in_err-text.result (fault.Refused c.in_err-text.field-0.0) _ _ c.from_residual-in_err-text.ensures.1
-    (of_size c.in_ok-settings.ensures.size (no_text c.args.input.now c.args.given.now (options_of c.options-options.result) c.options-options.ensures.told c.args.number c.in_ok-command.command c.in_ok-command.ensures
-    c.in_err-text.field-0.0 c.in_err-text.ensures.says))
+    fails _ _ _ _ c.from_residual-in_err-text.ensures.1 (of_size c.in_ok-settings.ensures.size (no_text c.options-options.ensures.told c.in_ok-command.ensures c.in_err-text.ensures.says))
 
 pub returns-clause-says : goal.returns-clause-says
-returns-clause-says c =
-    a_text c.args.input.now c.args.given.now (options_of c.options-options.result) c.options-options.ensures.told c.args.number c.in_ok-command.command c.in_ok-command.ensures c.in_ok-text.field-0.all.bytes c.in_ok-text.ensures.says
+returns-clause-says c = a_text c.options-options.ensures.told c.in_ok-command.ensures c.in_ok-text.ensures.says

@@ -1,5 +1,4 @@
-use Rattle.html_c.proofs.Names.{[], subst, options_of, own_context, case_in, left_in, ComesToParse}
-use Rattle.hparse.specs.Unrefused.{IsUnrefused}
+use Rattle.html_c.proofs.Names.{[], options_of, own_context, case_in}
 use Rattle.html_c.proofs.Trees.{not_begun, parse_of}
 use Rattle.html_c.proofs.tree.parsed.Goals as goal
 
@@ -10,6 +9,4 @@ returns-in_err-parser c =
 pub returns : goal.returns
 returns c =
     let opts = options_of c.args.options.now in let context = own_context c.args.settings.now.context in
-    subst (λ bytes. ComesToParse opts context bytes c.parse_reader.result) c.new-source.ensures
-    (parse_of left_in opts context (IsUnrefused opts (case_in context)) c.args.settings.now.piece c.new-source.result c.parse_reader.new.source c.parse_reader.result
-    (c.parse_reader.ensures.reads opts (case_in context) [] c.in_ok-parser.ensures.1))
+    parse_of opts context (c.parse_reader.ensures.reads opts (case_in context) [] c.in_ok-parser.ensures.1)

@@ -4,7 +4,7 @@ use Rattle.html_c.proofs.Outcomes.{fails}
 use Rattle.html_c.proofs.answer.Given.command.Goals as goal
 
 pub returns-in_err-escaping : goal.returns-in_err-escaping
-returns-in_err-escaping c = fails c.from_residual.result c.in_err-escaping.field-0.0 _ _ c.from_residual.ensures.1 (no_escaping c.in_err-escaping.ensures)
+returns-in_err-escaping c = fails _ _ _ _ c.from_residual.ensures.1 (no_escaping c.in_err-escaping.ensures)
 
 pub returns-then-not-may_be_in : goal.returns-then-not-may_be_in
 returns-then-not-may_be_in c =

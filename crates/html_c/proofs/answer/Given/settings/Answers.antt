@@ -3,4 +3,4 @@ use Rattle.html_c.proofs.Outcomes.{fails}
 use Rattle.html_c.proofs.answer.Given.settings.Goals as goal
 
 pub returns-in_err-context : goal.returns-in_err-context
-returns-in_err-context c = fails c.from_residual.result c.in_err-context.field-0.0 _ _ c.from_residual.ensures.1 (of_size (search rules) c.in_err-context.ensures)
+returns-in_err-context c = fails _ _ _ _ c.from_residual.ensures.1 (of_size (search rules) c.in_err-context.ensures)
