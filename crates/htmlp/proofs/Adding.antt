@@ -1,14 +1,12 @@
 -- What one more argument or command makes of a command line, and all of a list.
-use Rattle.htmlp.proofs.Names.{◌≡◌, ◌<◌, ◌+◌, ◌∙◌, ℕ, List, ◌∷◌, Bor, Text, length, drop, get_or, map, sym, ap, ap₂, refl, false, app_of, with_rule, Command, fields_of, choice_rule, named_reads, with_commands, with_rules}
+use Rattle.htmlp.proofs.Names.{◌≡◌, ◌<◌, ◌+◌, ◌∙◌, ℕ, List, ◌∷◌, length, drop, get_or, map, sym, ap, ap₂, refl, false, app_of, with_rule, Command, fields_of, choice_rule, named_reads, with_commands, with_rules}
 use Rattle.std.proofs.Common.{◌≤◌, Bool}
 use Rattle.std.proofs.lemmas.List.{at_drop_more, at_drop_all}
 use Rattle.clap.specs.Words.{AddsArg, AddsSubcommand, App, Rule, rule_of, with_subcommand}
 use Rattle.clap.specs.declared.builder.arg.Arg.{Arg}
+use Rattle.htmlp.specs.declared.commands.Choice.{Choice}
 use Rattle.htmlp.specs.declared.commands.CommandEntry.{CommandEntry}
 use Rattle.htmlp.specs.Line.{command_app}
-
-abbrev Choice : Type 0
-Choice = Bor Text × Bor Text × Bor Text
 
 pub one_more : (old new : Command) (arg : Arg) (app : App) (rule : Rule) → AddsArg old arg new → arg.global ≡ false → app_of old ≡ app → rule_of arg ≡ rule
     → app_of new ≡ with_rule app rule

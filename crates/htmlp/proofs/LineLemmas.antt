@@ -75,7 +75,7 @@ abbrev entry_rows : Bor Text × Bor ArgMatches → List Row
 entry_rows p = rows_of (found_of p.1.now)
 
 -- the name of the subcommand that was found, and its matches
-module _ (command : Command) (m : ArgMatches) (its : Bor Text × Bor ArgMatches) (found : Option (Bor Text × Bor ArgMatches)) (words : List Text) (is : app_of command ≡ program) (matches : HasMatchesOf (app_of command) words m)
+module _ (command : Command) (m : ArgMatches) {its : Bor Text × Bor ArgMatches} {found : Option (Bor Text × Bor ArgMatches)} (words : List Text) (is : app_of command ≡ program) (matches : HasMatchesOf (app_of command) words m)
     (some : found ≡ Some its) (rows : option_map entry_rows found ≡ option_map (λ p. p.1) (subcommand_rows_of m)) (names : option_map entry_name found ≡ subcommand_name_of m) where
   entered_is : subcommand_rows_of m ≡ subcommand_of program words
   entered_is = (matches (ap is_simple is ∙ program-simple)).1 ∙ ap (λ a. subcommand_of a words) is
@@ -99,10 +99,10 @@ module _ (command : Command) (m : ArgMatches) (its : Bor Text × Bor ArgMatches)
 
 -- ---- what the command says
 
-pub said : (r : Result Line Fault) (task given : Option Task) (value read : Text → Option Text) → task ≡ given → value ≡ read
+pub said : (r : Result Line Fault) {task given : Option Task} {value read : Text → Option Text} → task ≡ given → value ≡ read
     → MatchResult r (SaysLine task value) (OptionFault value) → IfOk r (SaysLine given read)
-said (Ok line) task given value read same is h = subst (λ t. SaysLine t read line) same (subst (λ v. SaysLine task v line) is h)
-said (Err why) task given value read same is h = tt
+said (Ok line) {task = task} {read = read} same is h = subst (λ t. SaysLine t read line) same (subst (λ v. SaysLine task v line) is h)
+said (Err why) same is h = tt
 
 pub anyway : {P : Type 0} (r : Result Line Fault) → P → OnOk r P
 anyway (Ok line) p = p
@@ -121,10 +121,10 @@ option_fault : (words : List Text) (why : Fault) → fault_of program words ≡ 
 option_fault words why none (inl h) = number_fault words numeric_options why none h
 option_fault words why none (inr h) = subst (FaultOf words) (sym h.2) (none, inr (h.0, h.1, refl))
 
-pub says_fault : (r : Result Line Fault) (words : List Text) (task : Option Task) (value : Text → Option Text) → fault_of program words ≡ [] → value ≡ option_value words
+pub says_fault : (r : Result Line Fault) (words : List Text) (task : Option Task) {value : Text → Option Text} → fault_of program words ≡ [] → value ≡ option_value words
     → MatchResult r (SaysLine task value) (OptionFault value) → IfErr r (FaultOf words)
-says_fault (Ok line) words task value none is h = tt
-says_fault (Err why) words task value none is h = option_fault words why none (subst (λ v. OptionFault v why) is h)
+says_fault (Ok line) words task none is h = tt
+says_fault (Err why) words task none is h = option_fault words why none (subst (λ v. OptionFault v why) is h)
 
 -- where each option is a number there is no such fault
 no_number_fault : (value : Text → Option Text) (options : List Numeric) (why : Fault) → AreNumbers value options → NumberFault value options why → ⊥
@@ -140,8 +140,8 @@ no_option_fault value why good (inr h) = not_some (bad_bytes_of (value (codes "b
     not_some None some is = absurd cc
     not_some (Some x) some is = absurd cc
 
-pub no_fault : (r : Result Line Fault) (words : List Text) (task : Option Task) (value : Text → Option Text) → value ≡ option_value words
+pub no_fault : (r : Result Line Fault) (words : List Text) (task : Option Task) {value : Text → Option Text} → value ≡ option_value words
     → MatchResult r (SaysLine task value) (OptionFault value)
     → IfErr r (λ f. takes program words ≡ true → AreGood (option_value words) → f ≡ fault.Memory)
-no_fault (Ok line) words task value is h = tt
-no_fault (Err why) words task value is h = λ taken good. absurd (no_option_fault (option_value words) why good (subst (λ v. OptionFault v why) is h))
+no_fault (Ok line) words task is h = tt
+no_fault (Err why) words task is h = λ taken good. absurd (no_option_fault (option_value words) why good (subst (λ v. OptionFault v why) is h))

@@ -4,6 +4,7 @@ use Rattle.names.specs.declared.refusal.Refusal.TheVariants.{Memory}
 use Rattle.hmarkup.specs.Quirks.{no_memory, bad_line, read_all}
 use Rattle.htmlp.specs.declared.fault.Fault.TheVariants.{Refused}
 use Rattle.htmlp.specs.Program.{FindsFile}
+use Rattle.htmlp.specs.World.{World}
 
 some_line : (before after : List (List ℕ)) (line : List ℕ) → [] ≡ before ++ line ∷ after → ⊥
 some_line [] after line is = absurd cc
@@ -16,14 +17,13 @@ no_line_is_bad e (bad_line before after line quirks lines listed bad is) = absur
 no_line_is_bad e (read_all quirks listed is) = absurd cc
 
 -- what is read of the file of a name
-module _ {R A : Type 0} (has_text : R → List ℕ → List ℕ → Type 0) (lacks_text : R → List ℕ → Fault → Type 0) (default : A)
-    (reads : List ℕ → Result A Refusal → Type 0) (surroundings : R) (name : Option (Bor (List ℕ))) (file : Bor (List ℕ)) (is : name ≡ Some file)
-    (read text : List ℕ) (same : read ≡ text) (has : has_text surroundings file.now text) where
+module _ {R F A : Type 0} (world : World R F) (default : A) (reads : List ℕ → Result A Refusal → Type 0) (surroundings : R)
+    {name : Option (Bor (List ℕ))} {file : Bor (List ℕ)} (is : name ≡ Some file) {read text : List ℕ} (same : read ≡ text) (has : world.has_text surroundings file.now text) where
   abbrev FindsIn : Option (Bor (List ℕ)) → Result A Fault → Type 0
-  FindsIn its = FindsFile has_text lacks_text default reads surroundings (option_map (λ s. s.now) its)
+  FindsIn its = FindsFile world default reads surroundings (option_map (λ s. s.now) its)
 
-  has_read : has_text surroundings file.now read
-  has_read = subst (has_text surroundings file.now) (sym same) has
+  has_read : world.has_text surroundings file.now read
+  has_read = subst (world.has_text surroundings file.now) (sym same) has
 
   pub list_read : (list : A) → reads read (Ok list) → FindsIn name (Ok list)
   list_read list h = subst (λ its. FindsIn its (Ok list)) (sym is) (read, has_read, h)

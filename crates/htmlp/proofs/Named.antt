@@ -1,5 +1,6 @@
 -- What the words say, where they are read.
 use Rattle.htmlp.proofs.Names.{◌≡◌, ◌⊎◌, ◌∙◌, inl, inr, ap, ap₂, sym, subst, codes, Option, option_map, ℕ, List, Ok, Err, false, Bor, Text, Fault, IsRefusalOf, Numeric, range_of, Line, SaysLine, task_of, option_value, FindsQuirks}
+use Rattle.std.proofs.Common.{rules}
 use Rattle.std.proofs.Math.Nat.{le_refl}
 use Rattle.charref.specs.Reference.{Entities}
 use Rattle.hmarkup.specs.Quirks.{QuirkLine}
@@ -11,6 +12,7 @@ use Rattle.htmlp.specs.Fault.{IsLimitFault}
 use Rattle.htmlp.specs.declared.fault.Fault.TheVariants.{Limit}
 use Rattle.htmlp.specs.declared.numeric.Numeric.TheVariants.{Nodes, Open}
 use Rattle.htmlp.specs.Numeric.{IsInRange}
+use Rattle.htmlp.specs.World.{World}
 use Rattle.htmlp.specs.Program.{FindsTable, FirstFault, no_table, no_quirks, no_limits, no_context, TellsOptions, CommandOptions, limits_of}
 
 abbrev name_of : Option (Bor (List ℕ)) → Option Text
@@ -29,28 +31,28 @@ abbrev limits_from : ℕ → ℕ → Bounds
 limits_from nodes depth = record { input = MAX_INPUT; tree = record { nodes = nodes; depth = depth } }
 
 -- limits that are refused, by the first that is out of its range
-pub limit_fault : (nodes depth : ℕ) (bad : Numeric) → (AreLimits (limits_from nodes depth) → ⊥)
+pub limit_fault : {nodes depth : ℕ} {bad : Numeric} → (AreLimits (limits_from nodes depth) → ⊥)
     → ((IsInRange (range_of Nodes) nodes → ⊥) × (bad ≡ Nodes)) ⊎ (IsInRange (range_of Nodes) nodes × (bad ≡ Open)) → IsLimitFault (limits_from nodes depth).tree (Limit bad)
-limit_fault nodes depth bad none (inl (out, is)) = inl (out, ap Limit is)
-limit_fault nodes depth bad none (inr (within, is)) = inr (
+limit_fault none (inl (out, is)) = inl (out, ap Limit is)
+limit_fault none (inr (within, is)) = inr (
   within,
   (λ depth_within. none (record { most_input = le_refl _; some_nodes = within.0; most_nodes = within.1; some_depth = depth_within.0; most_depth = depth_within.1 })),
   ap Limit is,
 )
 
-module _ {R : Type 0} (has_text : R → List ℕ → List ℕ → Type 0) (lacks_text : R → List ℕ → Fault → Type 0) (surroundings : R) (words : List Text) (line : Line)
+module _ {R F : Type 0} (world : World R F) (surroundings : R) (words : List Text) (line : Line)
     (says : SaysLine (task_of words) (option_value words) line) where
   abbrev IsTable : Entities → Type 0
-  IsTable table = FindsTable has_text lacks_text surroundings (name_of line.entities) (Ok table)
+  IsTable table = FindsTable world surroundings (name_of line.entities) (Ok table)
 
   abbrev IsQuirks : List QuirkLine → Type 0
-  IsQuirks quirks = FindsQuirks has_text lacks_text surroundings (name_of line.quirks) (Ok quirks)
+  IsQuirks quirks = FindsQuirks world surroundings (name_of line.quirks) (Ok quirks)
 
-  table_found : (table : Entities) → IsTable table → FindsTable has_text lacks_text surroundings (option_value words (codes "entities")) (Ok table)
-  table_found table is = subst (λ name. FindsTable has_text lacks_text surroundings name (Ok table)) says.entities_is is
+  table_found : (table : Entities) → IsTable table → FindsTable world surroundings (option_value words (codes "entities")) (Ok table)
+  table_found table is = subst (λ name. FindsTable world surroundings name (Ok table)) says.entities_is is
 
-  quirks_found : (quirks : List QuirkLine) → IsQuirks quirks → FindsQuirks has_text lacks_text surroundings (option_value words (codes "quirks")) (Ok quirks)
-  quirks_found quirks is = subst (λ name. FindsQuirks has_text lacks_text surroundings name (Ok quirks)) says.quirks_is is
+  quirks_found : (quirks : List QuirkLine) → IsQuirks quirks → FindsQuirks world surroundings (option_value words (codes "quirks")) (Ok quirks)
+  quirks_found quirks is = subst (λ name. FindsQuirks world surroundings name (Ok quirks)) says.quirks_is is
 
   limits_are : limits_from line.nodes line.open ≡ limits_of words
   limits_are = ap₂ limits_from says.nodes_is says.open_is
@@ -61,37 +63,26 @@ module _ {R : Type 0} (has_text : R → List ℕ → List ℕ → Type 0) (lacks
   limits_said : AreLimits (limits_of words) → AreLimits (limits_from line.nodes line.open)
   limits_said are = subst AreLimits (sym limits_are) are
 
-  pub table_missing : (why : Fault) → FindsTable has_text lacks_text surroundings (name_of line.entities) (Err why) → FirstFault has_text lacks_text surroundings words why
-  table_missing why is = no_table (subst (λ name. FindsTable has_text lacks_text surroundings name (Err why)) says.entities_is is)
+  pub table_missing : {why : Fault} → FindsTable world surroundings (name_of line.entities) (Err why) → FirstFault world surroundings words why
+  table_missing {why} is = no_table (subst (λ name. FindsTable world surroundings name (Err why)) says.entities_is is)
 
-  pub quirks_missing : (table : Entities) (why : Fault) → IsTable table → FindsQuirks has_text lacks_text surroundings (name_of line.quirks) (Err why)
-      → FirstFault has_text lacks_text surroundings words why
-  quirks_missing table why found is = no_quirks table (table_found table found) (subst (λ name. FindsQuirks has_text lacks_text surroundings name (Err why)) says.quirks_is is)
+  pub quirks_missing : (table : Entities) {why : Fault} → IsTable table → FindsQuirks world surroundings (name_of line.quirks) (Err why)
+      → FirstFault world surroundings words why
+  quirks_missing table {why} found is = no_quirks table (table_found table found) (subst (λ name. FindsQuirks world surroundings name (Err why)) says.quirks_is is)
 
-  pub limits_refused : (table : Entities) (quirks : List QuirkLine) (why : Fault) → IsTable table → IsQuirks quirks → (AreLimits (limits_from line.nodes line.open) → ⊥)
-      → IsLimitFault (limits_from line.nodes line.open).tree why → FirstFault has_text lacks_text surroundings words why
-  limits_refused table quirks why found listed none is =
+  pub limits_refused : (table : Entities) (quirks : List QuirkLine) {why : Fault} → IsTable table → IsQuirks quirks → (AreLimits (limits_from line.nodes line.open) → ⊥)
+      → IsLimitFault (limits_from line.nodes line.open).tree why → FirstFault world surroundings words why
+  limits_refused table quirks {why} found listed none is =
       no_limits table quirks (table_found table found) (quirks_found quirks listed) (λ are. none (limits_said are)) (subst (λ (b : Bounds). IsLimitFault b.tree why) limits_are is)
 
-  pub context_refused : (table : Entities) (quirks : List QuirkLine) (why : Fault) → IsTable table → IsQuirks quirks → AreLimits (limits_from line.nodes line.open)
-      → (AllowsContext (name_of line.command.context) → ⊥) → IsRefusalOf (name_of line.command.context) BadContext why → FirstFault has_text lacks_text surroundings words why
-  context_refused table quirks why found listed are none is =
+  pub context_refused : (table : Entities) (quirks : List QuirkLine) {why : Fault} → IsTable table → IsQuirks quirks → AreLimits (limits_from line.nodes line.open)
+      → (AllowsContext (name_of line.command.context) → ⊥) → IsRefusalOf (name_of line.command.context) BadContext why → FirstFault world surroundings words why
+  context_refused table quirks {why} found listed are none is =
       no_context table quirks (table_found table found) (quirks_found quirks listed) (limits_found are) (λ allows. none (subst AllowsContext (sym says.context_is) allows))
       (subst (λ name. IsRefusalOf name BadContext why) says.context_is is)
 
-  pub tells : (table : Entities) (quirks : List QuirkLine) (limits : Bounds) → IsTable table → IsQuirks quirks → AreLimits (limits_from line.nodes line.open)
-      → AllowsContext (name_of line.command.context) → limits ≡ limits_from line.nodes line.open → TellsOptions has_text lacks_text surroundings words (told_with line table quirks limits)
-  tells table quirks limits found listed are allows is =
-      record {
-        task = says.task_is;
-        context = says.context_is;
-        escaping = says.escaping_is;
-        allowed = allows;
-        piece = says.piece_is;
-        table = table_found table found;
-        quirks = quirks_found quirks listed;
-        bad_bytes = says.bad_bytes_is;
-        input_limit = ap (λ (b : Bounds). b.input) (is ∙ limits_are);
-        limits = ap (λ (b : Bounds). b.tree) (is ∙ limits_are);
-        in_range = limits_found are;
-      }
+  pub tells : (table : Entities) (quirks : List QuirkLine) {limits : Bounds} → IsTable table → IsQuirks quirks → AreLimits (limits_from line.nodes line.open)
+      → AllowsContext (name_of line.command.context) → limits ≡ limits_from line.nodes line.open → TellsOptions world surroundings words (told_with line table quirks limits)
+  tells table quirks found listed are allows is =
+      let its_table = table_found table found in let its_quirks = quirks_found quirks listed in let within = limits_found are in
+      let input = ap (λ (b : Bounds). b.input) (is ∙ limits_are) in let tree = ap (λ (b : Bounds). b.tree) (is ∙ limits_are) in search rules

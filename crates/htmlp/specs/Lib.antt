@@ -1,6 +1,7 @@
 pub mod Ending
 pub mod Fault
 pub mod Line
+pub mod World
 pub mod Message
 pub mod Numeric
 pub mod Program

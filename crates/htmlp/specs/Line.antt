@@ -1,7 +1,6 @@
 -- The command line of the program, in the words of `clap`, and what its words say.
 use Rattle.std.specs.Prelude.{◌≡◌, ◌⊎◌, ◌||◌, ℕ, ⊤, Bool, true, false, List, [], ◌∷◌, map, Option, None, Some, option_and_then, option_map, bytes_eq}
 use Rattle.std.specs.Prelude.{codes, IsSome, ◌==◌, if◌then◌else◌}
-use Rattle.std.specs.Borrow.{Bor}
 use Rattle.std.specs.Str.Parse.{digits_value, without_leading_plus}
 use Rattle.clap.specs.Words.{App, IsAmong, IsUnsignedIn, Rule, Text, fault_of, first_of, kind_of, new_app, new_rule, subcommand_of, with_rule, with_subcommand}
 use Rattle.clap.specs.declared.builder.action.ArgAction.TheVariants.{SetTrue}
@@ -11,6 +10,7 @@ use Rattle.hserialize.specs.declared.escaping.Escaping.{Escaping}
 use Rattle.hserialize.specs.declared.escaping.Escaping.TheVariants.{One, Two}
 use Rattle.hwrite.specs.Command.{task_named}
 use Rattle.hwrite.specs.declared.command.Task.{Task}
+use Rattle.htmlp.specs.declared.commands.Choice.{Choice}
 use Rattle.htmlp.specs.declared.commands.CommandEntry.{CommandEntry}
 use Rattle.htmlp.specs.declared.commands.Reads.{Reads}
 use Rattle.htmlp.specs.declared.commands.Reads.TheVariants.{Document, Either, Fragment, Written}
@@ -30,8 +30,8 @@ abbrev pub option_rule : Text → Rule
 option_rule name = record (new_rule name) { long = Some name; value_names = 1 }
 
 -- the rule of an option as the program lists it, which is required or not
-abbrev pub choice_rule : Bool → Bor Text × Bor Text × Bor Text → Rule
-choice_rule required choice = record (option_rule choice.0.now) { required = required }
+abbrev pub choice_rule : Bool → Choice → Rule
+choice_rule required choice = record (option_rule choice.name.now) { required = required }
 
 -- the option that names a fragment's context, by what the command reads, and that of escaping
 abbrev pub context_rules : Reads → List Rule

@@ -1,5 +1,4 @@
--- What the program does in its surroundings. `has_words`, `cannot_begin` (there are no words, or no keys), `opens` and `cannot_open` say
--- what calls of the surroundings returned; of a reader `left` says the bytes that it has left, where it says, and of a writer `written`
+-- What the program does in its surroundings. Of a reader `left` says the bytes that it has left, where it says, and of a writer `written`
 -- those that it has taken; `failed` says how many of their calls have failed.
 use Rattle.std.specs.Prelude.{◌≡◌, ◌⊎◌, ◌||◌, ℕ, Bool, List, [], true, false, Option, None, Some, Result, Ok, Err, IfSome, MatchResult, option_map, codes}
 use Rattle.std.specs.Prelude.{IsErrAnd}
@@ -26,6 +25,7 @@ use Rattle.htmlp.specs.declared.fault.Fault.TheVariants as fault
 use Rattle.htmlp.specs.Ending.{ending_text, exit_status}
 use Rattle.htmlp.specs.Fault.{IsLimitFault, IsRefusalOf, IsUnread}
 use Rattle.htmlp.specs.Line.{program, task_of, option_value, asks_explanation, asks_version, escaping_of, number_or, bad_bytes_of, AreGood, FaultOf}
+use Rattle.htmlp.specs.World.{World}
 use Rattle.htmlp.specs.declared.program.TheConstants.{VERSION}
 
 -- what a run of the engine, over what has this name, is for the program
@@ -76,14 +76,14 @@ pub record WritesVersion {W : Type 0} (written : W → Option (List ℕ)) (write
 abbrev pub ReadsTable : List ℕ → Result Entities Refusal → Type 0
 ReadsTable text answer = MatchResult answer (λ table. table_of_json text ≡ Ok table) (IsRefusedWith (table_of_json text))
 
-module _ {R : Type 0} (has_text : R → List ℕ → List ℕ → Type 0) (lacks_text : R → List ℕ → Fault → Type 0) where
+module _ {R F : Type 0} (world : World R F) where
   -- What is found of a list: what is read of the text of the named file, or the default, or why there is none.
   abbrev pub FindsFile : {A : Type 0} → A → (List ℕ → Result A Refusal → Type 0) → R → Option Text → Result A Fault → Type 0
   FindsFile default reads surroundings None (Ok found) = found ≡ default
   FindsFile default reads surroundings None (Err why) = IsRefusalOf None Memory why
-  FindsFile default reads surroundings (Some name) (Ok found) = (text : List ℕ) × has_text surroundings name text × reads text (Ok found)
-  FindsFile default reads surroundings (Some name) (Err why) = (lacks_text surroundings name why × IsUnread name why)
-      ⊎ ((text : List ℕ) × (refusal : Refusal) × has_text surroundings name text × reads text (Err refusal) × IsRefusalOf (Some name) refusal why)
+  FindsFile default reads surroundings (Some name) (Ok found) = (text : List ℕ) × world.has_text surroundings name text × reads text (Ok found)
+  FindsFile default reads surroundings (Some name) (Err why) = (world.lacks_text surroundings name why × IsUnread name why)
+      ⊎ ((text : List ℕ) × (refusal : Refusal) × world.has_text surroundings name text × reads text (Err refusal) × IsRefusalOf (Some name) refusal why)
 
   -- the table of character references, or the core table; the quirks list, or the empty one
   abbrev pub FindsTable : R → Option Text → Result Entities Fault → Type 0
@@ -119,20 +119,18 @@ module _ {R : Type 0} (has_text : R → List ℕ → List ℕ → Type 0) (lacks
         → (AllowsContext (option_value words (codes "in")) → ⊥) → IsRefusalOf (option_value words (codes "in")) BadContext why
         → FirstFault surroundings words why
 
-module _ {R F : Type 0} (opens : R → List ℕ → F → Type 0) (cannot_open : R → List ℕ → Type 0) (left_in_file : F → Option (List ℕ))
-    (failed_in_file : F → ℕ) where
+module _ {R F : Type 0} (world : World R F) (left_in_file : F → Option (List ℕ)) (failed_in_file : F → ℕ) where
   -- The engine ran over the file of this name, or that cannot be opened.
   pub data AnswersFile {W : Type 0} (written : W → Option (List ℕ)) (writes : W → ℕ)
       (opts : CommandOptions) (surroundings : R) (name : List ℕ) (output output' : W)
       (outcome : Result (Unit {0}) Fault) : Type 0 where
-    file_missing : cannot_open surroundings name → IsOutcome (Some name) (Err Read) outcome → output' ≡ output
+    file_missing : world.cannot_open surroundings name → IsOutcome (Some name) (Err Read) outcome → output' ≡ output
         → AnswersFile written writes opts surroundings name output output' outcome
-    file_answered : (file file' : F) → opens surroundings name file
+    file_answered : (file file' : F) → world.opens surroundings name file
         → AnswersInput left_in_file failed_in_file written writes opts name file file' output output' outcome
         → AnswersFile written writes opts surroundings name output output' outcome
 
-  module _ {S W : Type 0} (has_text : R → List ℕ → List ℕ → Type 0) (lacks_text : R → List ℕ → Fault → Type 0)
-      (left : S → Option (List ℕ)) (reads : S → ℕ) (written : W → Option (List ℕ)) (writes : W → ℕ) where
+  module _ {S W : Type 0} (left : S → Option (List ℕ)) (reads : S → ℕ) (written : W → Option (List ℕ)) (writes : W → ℕ) where
     -- What these words say is done.
     pub data AnswersWords (surroundings : R) (words : List Text) (input input' : S) (output output' : W)
         (outcome : Result (Unit {0}) Fault) : Type 0 where
@@ -141,66 +139,60 @@ module _ {R F : Type 0} (opens : R → List ℕ → F → Type 0) (cannot_open :
           → (takes program words ≡ true → AreGood (option_value words) → why ≡ fault.Memory) → input' ≡ input → output' ≡ output
           → AnswersWords surroundings words input input' output output' outcome
       -- something that they name is not there, or is refused
-      words_without : (why : Fault) → FirstFault has_text lacks_text surroundings words why → outcome ≡ Err why → input' ≡ input → output' ≡ output
+      words_without : (why : Fault) → FirstFault world surroundings words why → outcome ≡ Err why → input' ≡ input → output' ≡ output
           → AnswersWords surroundings words input input' output output' outcome
       -- they name a file
-      words_with_file : (opts : CommandOptions) (name : Text) → TellsOptions has_text lacks_text surroundings words opts
+      words_with_file : (opts : CommandOptions) (name : Text) → TellsOptions world surroundings words opts
           → option_value words (codes "file") ≡ Some name
           → AnswersFile written writes opts surroundings name output output' outcome → input' ≡ input
           → AnswersWords surroundings words input input' output output' outcome
       -- they name none: the input is the standard input
-      words_without_file : (opts : CommandOptions) → TellsOptions has_text lacks_text surroundings words opts → option_value words (codes "file") ≡ None
+      words_without_file : (opts : CommandOptions) → TellsOptions world surroundings words opts → option_value words (codes "file") ≡ None
           → AnswersInput left reads written writes opts (codes "standard input") input input' output output' outcome
           → AnswersWords surroundings words input input' output output' outcome
 
 -- A fault is explained where standard error is a terminal, and where the words ask for it.
-pub record IsExplained {R : Type 0} (is_terminal : R → Bool → Type 0) (surroundings : R) (words : List Text) (explains : Bool) : Type 0 where
+pub record IsExplained {R F : Type 0} (world : World R F) (surroundings : R) (words : List Text) (explains : Bool) : Type 0 where
   pub terminal : Bool
-  pub told : is_terminal surroundings terminal
+  pub told : world.is_terminal surroundings terminal
   pub explains_is : explains ≡ (terminal || asks_explanation words)
 
-module _ {R F S W : Type 0} (has_words : R → List Text → Type 0) (cannot_begin : R → Fault → Type 0) (opens : R → List ℕ → F → Type 0)
-    (cannot_open : R → List ℕ → Type 0)
-    (has_text : R → List ℕ → List ℕ → Type 0) (lacks_text : R → List ℕ → Fault → Type 0)
-    (left_in_file : F → Option (List ℕ)) (failed_in_file : F → ℕ) (left : S → Option (List ℕ)) (reads : S → ℕ) (written : W → Option (List ℕ))
-    (writes : W → ℕ) where
+module _ {R F S W : Type 0} (world : World R F) (left_in_file : F → Option (List ℕ)) (failed_in_file : F → ℕ) (left : S → Option (List ℕ))
+    (reads : S → ℕ) (written : W → Option (List ℕ)) (writes : W → ℕ) where
   -- What the command line says is done.
   pub data ProgramAnswers (surroundings : R) (input input' : S) (output output' : W) (outcome : Result (Unit {0}) Fault) : Type 0 where
-    line_missing : (why : Fault) → cannot_begin surroundings why → outcome ≡ Err why → input' ≡ input → output' ≡ output
+    line_missing : (why : Fault) → world.cannot_begin surroundings why → outcome ≡ Err why → input' ≡ input → output' ≡ output
         → ProgramAnswers surroundings input input' output output' outcome
-    line_for_version : (words : List Text) → has_words surroundings words → asks_version words ≡ true
+    line_for_version : (words : List Text) → world.has_words surroundings words → asks_version words ≡ true
         → WritesVersion written writes output output' outcome → input' ≡ input
         → ProgramAnswers surroundings input input' output output' outcome
-    line_answered : (words : List Text) → has_words surroundings words → asks_version words ≡ false
-        → AnswersWords opens cannot_open left_in_file failed_in_file has_text lacks_text left reads written writes surroundings words input input' output
-        output' outcome
+    line_answered : (words : List Text) → world.has_words surroundings words → asks_version words ≡ false
+        → AnswersWords world left_in_file failed_in_file left reads written writes surroundings words input input' output output' outcome
         → ProgramAnswers surroundings input input' output output' outcome
 
   -- Whether a fault is explained: not where there are no words.
-  pub data Explains (is_terminal : R → Bool → Type 0) (surroundings : R) (outcome : Result (Unit {0}) Fault) (explains : Bool) : Type 0 where
-    without_words : (why : Fault) → cannot_begin surroundings why → outcome ≡ Err why → explains ≡ false
-        → Explains is_terminal surroundings outcome explains
-    with_words : (words : List Text) → has_words surroundings words → IsExplained is_terminal surroundings words explains
-        → Explains is_terminal surroundings outcome explains
+  pub data Explains (surroundings : R) (outcome : Result (Unit {0}) Fault) (explains : Bool) : Type 0 where
+    without_words : (why : Fault) → world.cannot_begin surroundings why → outcome ≡ Err why → explains ≡ false
+        → Explains surroundings outcome explains
+    with_words : (words : List Text) → world.has_words surroundings words → IsExplained world surroundings words explains
+        → Explains surroundings outcome explains
 
   -- The program does what its command line says, writes the lines of its ending to standard error, and returns its status.
-  pub record EndsProgram {E : Type 0} (is_terminal : R → Bool → Type 0) (errors_written : E → Option (List ℕ)) (errors_failed : E → ℕ) (surroundings : R)
+  pub record EndsProgram {E : Type 0} (errors_written : E → Option (List ℕ)) (errors_failed : E → ℕ) (surroundings : R)
       (input input' : S) (output output' : W) (errors errors' : E) (status : ℕ) : Type 0 where
     pub outcome : Result (Unit {0}) Fault
     pub answered : ProgramAnswers surroundings input input' output output' outcome
     pub explains : Bool
-    pub explains_is : Explains is_terminal surroundings outcome explains
+    pub explains_is : Explains surroundings outcome explains
     pub told : IfSome (ending_text explains outcome) (EndsWith (errors_written errors) (errors_failed errors) (errors_written errors') (errors_failed errors'))
     pub status_is : status ≡ exit_status outcome
 
 -- The program ran, and this was its status.
-pub record HasRun {R F S W E : Type 0} (has_words : R → List Text → Type 0) (cannot_begin : R → Fault → Type 0) (opens : R → List ℕ → F → Type 0)
-    (cannot_open : R → List ℕ → Type 0) (has_text : R → List ℕ → List ℕ → Type 0) (lacks_text : R → List ℕ → Fault → Type 0)
-    (left_in_file : F → Option (List ℕ)) (failed_in_file : F → ℕ) (left : S → Option (List ℕ)) (reads : S → ℕ)
-    (written : W → Option (List ℕ)) (writes : W → ℕ) (is_terminal : R → Bool → Type 0) (errors_written : E → Option (List ℕ))
-    (errors_failed : E → ℕ) (surroundings : R) (status : ℕ) : Type 0 where
+pub record HasRun {R F S W E : Type 0} (world : World R F) (left_in_file : F → Option (List ℕ)) (failed_in_file : F → ℕ)
+    (left : S → Option (List ℕ)) (reads : S → ℕ) (written : W → Option (List ℕ)) (writes : W → ℕ)
+    (errors_written : E → Option (List ℕ)) (errors_failed : E → ℕ) (surroundings : R) (status : ℕ) : Type 0 where
   pub input : S × S
   pub output : W × W
   pub errors : E × E
-  pub ends : EndsProgram has_words cannot_begin opens cannot_open has_text lacks_text left_in_file failed_in_file left reads written writes
-      is_terminal errors_written errors_failed surroundings input.0 input.1 output.0 output.1 errors.0 errors.1 status
+  pub ends : EndsProgram world left_in_file failed_in_file left reads written writes errors_written errors_failed surroundings input.0 input.1
+      output.0 output.1 errors.0 errors.1 status

@@ -28,8 +28,13 @@ pub struct CommandEntry {
     pub reads: Reads,
 }
 
-/// An option that has a value: its name, what its value is called, and its help.
-type Choice = (&'static str, &'static str, &'static str);
+/// An option that has a value.
+struct Choice {
+    name: &'static str,
+    /// What its value is called.
+    value: &'static str,
+    help: &'static str,
+}
 
 /// The commands, in the order in which help lists them.
 static COMMANDS: [CommandEntry; 6] = [
@@ -72,7 +77,11 @@ static COMMANDS: [CommandEntry; 6] = [
 ];
 
 /// The option that names a fragment's context.
-const CONTEXT: Choice = ("in", "NAME", "The element in which the input stands");
+const CONTEXT: Choice = Choice {
+    name: "in",
+    value: "NAME",
+    help: "The element in which the input stands",
+};
 
 /// What a command has that may read a fragment.
 static EITHER: [Choice; 1] = [CONTEXT];
@@ -80,45 +89,45 @@ static EITHER: [Choice; 1] = [CONTEXT];
 /// The same, and the option that names a way of escaping.
 static WRITTEN: [Choice; 2] = [
     CONTEXT,
-    (
-        "escape",
-        "N",
-        "Whether < and > stay in attribute values, 1, or are escaped, 2 [default: 1]",
-    ),
+    Choice {
+        name: "escape",
+        value: "N",
+        help: "Whether < and > stay in attribute values, 1, or are escaped, 2 [default: 1]",
+    },
 ];
 
 /// The options of each command.
 static EACH: [Choice; 6] = [
-    (
-        "piece",
-        "N",
-        "Bytes fed at a time, 1 to 65536 [default: 65536]",
-    ),
-    (
-        "entities",
-        "FILE",
-        "The table of character references [default: amp, lt, gt, quot, nbsp]",
-    ),
-    (
-        "quirks",
-        "FILE",
-        "The list of quirky doctypes [default: an empty list]",
-    ),
-    (
-        "bad-bytes",
-        "WORD",
-        "What becomes of bytes that are not UTF-8: refuse or replace [default: refuse]",
-    ),
-    (
-        "nodes",
-        "N",
-        "The most nodes, 16 to 16777216 [default: 16777216]",
-    ),
-    (
-        "open",
-        "N",
-        "The most open elements, 16 to 1048576 [default: 1048576]",
-    ),
+    Choice {
+        name: "piece",
+        value: "N",
+        help: "Bytes fed at a time, 1 to 65536 [default: 65536]",
+    },
+    Choice {
+        name: "entities",
+        value: "FILE",
+        help: "The table of character references [default: amp, lt, gt, quot, nbsp]",
+    },
+    Choice {
+        name: "quirks",
+        value: "FILE",
+        help: "The list of quirky doctypes [default: an empty list]",
+    },
+    Choice {
+        name: "bad-bytes",
+        value: "WORD",
+        help: "What becomes of bytes that are not UTF-8: refuse or replace [default: refuse]",
+    },
+    Choice {
+        name: "nodes",
+        value: "N",
+        help: "The most nodes, 16 to 16777216 [default: 16777216]",
+    },
+    Choice {
+        name: "open",
+        value: "N",
+        help: "The most open elements, 16 to 1048576 [default: 1048576]",
+    },
 ];
 
 /// The program's command line, as `clap` reads it.
@@ -128,7 +137,6 @@ pub fn command_line<'a>(alloc: Global) -> Result<Command<'a>, AllocError>
     with_commands(alloc, bare_program(alloc), &COMMANDS)
 }
 
-/// The command line without its commands.
 fn bare_program<'a>(alloc: Global) -> Command<'a>
     ensures { app_of result ≡ bare_program }
 {
@@ -141,7 +149,6 @@ fn bare_program<'a>(alloc: Global) -> Command<'a>
         .disable_help_subcommand(true)
 }
 
-/// The command line with these commands too.
 fn with_commands<'a>(
     alloc: Global,
     line: Command<'a>,
@@ -157,7 +164,6 @@ fn with_commands<'a>(
     Ok(line)
 }
 
-/// A command, with its file and its options.
 fn command<'a>(alloc: Global, entry: &CommandEntry) -> Result<Command<'a>, AllocError>
     ensures shape { IfOk result (λ command. app_of command ≡ command_app (named_reads entry.now)) }
     ensures local { IfOk result (λ command. (fields_of command).has_globals ≡ false) }
@@ -168,7 +174,6 @@ fn command<'a>(alloc: Global, entry: &CommandEntry) -> Result<Command<'a>, Alloc
     with_choices(alloc, chosen, &EACH, false)?.arg(explain(alloc))
 }
 
-/// A command with its file, without options.
 fn bare_command<'a>(alloc: Global, entry: &CommandEntry) -> Result<Command<'a>, AllocError>
     ensures shape { IfOk result (λ command. app_of command ≡ with_rule (new_app entry.now.name.now) file_rule) }
     ensures local { IfOk result (λ command. (fields_of command).has_globals ≡ false) }
@@ -195,7 +200,6 @@ fn choices(reads: Reads) -> (&'static [Choice], bool)
     }
 }
 
-/// The command with these options too.
 fn with_choices<'a>(
     alloc: Global,
     command: Command<'a>,
@@ -213,16 +217,14 @@ fn with_choices<'a>(
     Ok(command)
 }
 
-/// An option.
 fn option<'a>(alloc: Global, choice: &Choice, required: bool) -> Arg<'a>
     ensures rule { rule_of result ≡ choice_rule required choice.now }
     ensures local { result.global ≡ false }
 {
-    let (name, value, help) = *choice;
-    Arg::new(alloc, name)
-        .long(name)
-        .value_name(value)
-        .help(help)
+    Arg::new(alloc, choice.name)
+        .long(choice.name)
+        .value_name(choice.value)
+        .help(choice.help)
         .required(required)
 }
 

@@ -123,16 +123,11 @@ fn refused_line<'a>(
     ensures { message_text result ≡ codes "refused: " ++ ((name.now ++ detail_text (option_map (λ s. s.now) detail.entry))
         ++ number_text (option_map (λ p. (p.0.now, p.1)) number.entry)) }
 {
-    match detail {
-        Some(word) => {
-            let words = ["refused: ", name, " ", word, "", "", ""];
-            Message { words, number }
-        }
-        None => {
-            let words = ["refused: ", name, "", "", "", "", ""];
-            Message { words, number }
-        }
-    }
+    let words = match detail {
+        Some(word) => ["refused: ", name, " ", word, "", "", ""],
+        None => ["refused: ", name, "", "", "", "", ""],
+    };
+    Message { words, number }
 }
 
 /// What stands around the name of what was refused.

@@ -23,19 +23,15 @@ impl Surroundings for HostRuntime {
 
     type File = Counted<File>;
 
-    ghost has_words = { λ _ _. ⊤ };
-
-    ghost cannot_begin = { λ _ _. ⊤ };
-
-    ghost opens = { λ _ _ _. ⊤ };
-
-    ghost cannot_open = { λ _ _. ⊤ };
-
-    ghost has_text = { λ _ _ _. ⊤ };
-
-    ghost lacks_text = { λ _ _ _. ⊤ };
-
-    ghost is_terminal = { λ _ _. ⊤ };
+    ghost world = { record {
+      has_words = λ _ _. ⊤;
+      cannot_begin = λ _ _. ⊤;
+      opens = λ _ _ _. ⊤;
+      cannot_open = λ _ _. ⊤;
+      has_text = λ _ _ _. ⊤;
+      lacks_text = λ _ _ _. ⊤;
+      is_terminal = λ _ _. ⊤;
+    } };
 
     fn alloc(&self) -> Global {
         Alloc::alloc(self)
@@ -74,7 +70,6 @@ impl Surroundings for HostRuntime {
     }
 }
 
-/// Why there are no words.
 fn words_fault(kind: ErrorKind) -> Fault<'static>
     ensures not_text { kind ≡ ErrorKind.InvalidData → result ≡ fault.NotUtf8 }
     ensures memory { kind ≢ ErrorKind.InvalidData → result ≡ fault.Memory }
@@ -86,7 +81,6 @@ fn words_fault(kind: ErrorKind) -> Fault<'static>
     }
 }
 
-/// Why the text of the file of this name cannot be read.
 fn text_fault<'a>(kind: ErrorKind, name: &'a str) -> Fault<'a>
     ensures memory { kind ≡ ErrorKind.OutOfMemory → result ≡ fault.Memory }
     ensures unread { kind ≢ ErrorKind.OutOfMemory → result ≡ fault.Refused Refusal.Read (Some name.entry) }
@@ -103,14 +97,9 @@ fn text_fault<'a>(kind: ErrorKind, name: &'a str) -> Fault<'a>
 
 /// The program over the system's streams.
 pub fn start(rt: &HostRuntime) -> ExitCode
-    ensures { HasRun ⟦<HostRuntime as Surroundings>⟧.has_words ⟦<HostRuntime as Surroundings>⟧.cannot_begin
-        ⟦<HostRuntime as Surroundings>⟧.opens ⟦<HostRuntime as Surroundings>⟧.cannot_open
-        ⟦<HostRuntime as Surroundings>⟧.has_text ⟦<HostRuntime as Surroundings>⟧.lacks_text
-        ⟦<Counted<File> as Source>⟧.left ⟦<Counted<File> as Source>⟧.failed
-        ⟦<Counted<Stdin> as Source>⟧.left ⟦<Counted<Stdin> as Source>⟧.failed
-        ⟦<Counted<Stdout> as Target>⟧.written ⟦<Counted<Stdout> as Target>⟧.failed
-        ⟦<HostRuntime as Surroundings>⟧.is_terminal ⟦<Counted<Stderr> as Target>⟧.written ⟦<Counted<Stderr> as Target>⟧.failed
-        rt.now (exit_status result) }
+    ensures { HasRun ⟦<HostRuntime as Surroundings>⟧.world ⟦<Counted<File> as Source>⟧.left ⟦<Counted<File> as Source>⟧.failed
+        ⟦<Counted<Stdin> as Source>⟧.left ⟦<Counted<Stdin> as Source>⟧.failed ⟦<Counted<Stdout> as Target>⟧.written
+        ⟦<Counted<Stdout> as Target>⟧.failed ⟦<Counted<Stderr> as Target>⟧.written ⟦<Counted<Stderr> as Target>⟧.failed rt.now (exit_status result) }
 {
     let mut input = Counted::new(rt.stdin());
     let mut output = Counted::new(rt.stdout());

@@ -77,7 +77,6 @@ fn bad_bytes<'a>(found: &ArgMatches<'a>) -> Result<BadBytes, Fault<'a>>
     }
 }
 
-/// The way of escaping of a number.
 fn escaping_of(number: u64) -> Escaping
     ensures { result ≡ escaping_of number }
 {

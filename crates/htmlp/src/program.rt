@@ -32,8 +32,7 @@ pub fn run_program<R: Surroundings, S: Source, W: Target, E: Target>(
     output: &mut W,
     errors: &mut E,
 ) -> u8
-    ensures { EndsProgram R.has_words R.cannot_begin R.opens R.cannot_open R.has_text R.lacks_text R.File.left R.File.failed S.left S.failed W.written W.failed
-        R.is_terminal E.written E.failed
+    ensures { EndsProgram R.world R.File.left R.File.failed S.left S.failed W.written W.failed E.written E.failed
         surroundings.now input.old input.new output.old output.new errors.old errors.new result }
 {
     match surroundings.words() {
@@ -47,7 +46,7 @@ pub fn run_program<R: Surroundings, S: Source, W: Target, E: Target>(
 
 /// Whether a fault is explained: where a person reads standard error, and where the words ask for it.
 fn explains<R: Surroundings>(surroundings: &R, words: &[String]) -> bool
-    ensures { IsExplained R.is_terminal surroundings.now (map string_bytes words.now) result }
+    ensures { IsExplained R.world surroundings.now (map string_bytes words.now) result }
 {
     surroundings.on_terminal() || asks_explanation(words)
 }
@@ -59,9 +58,8 @@ fn answer<'a, R: Surroundings, S: Source, W: Target>(
     input: &mut S,
     output: &mut W,
 ) -> Result<(), Fault<'a>>
-    ensures { R.has_words surroundings.now (map string_bytes words.now)
-        → ProgramAnswers R.has_words R.cannot_begin R.opens R.cannot_open R.has_text R.lacks_text R.File.left R.File.failed S.left S.failed W.written W.failed
-        surroundings.now input.old input.new output.old output.new result }
+    ensures { R.world.has_words surroundings.now (map string_bytes words.now) → ProgramAnswers R.world R.File.left R.File.failed S.left S.failed
+        W.written W.failed surroundings.now input.old input.new output.old output.new result }
 {
     let keys = surroundings.keys()?;
     if asks_version(words) {
@@ -81,7 +79,6 @@ fn asks_version(words: &[String]) -> bool
     }
 }
 
-/// Writes the version.
 fn write_version<'a, W: Target>(output: &mut W) -> Result<(), Fault<'a>>
     ensures { WritesVersion W.written W.failed output.old output.new result }
 {
@@ -99,8 +96,7 @@ fn answer_line<'a, R: Surroundings, S: Source, W: Target>(
 ) -> Result<(), Fault<'a>>
     requires { 0 < line.command.piece }
     ensures { (words : List Text) → SaysLine (task_of words) (option_value words) line.entry
-        → AnswersWords R.opens R.cannot_open R.File.left R.File.failed R.has_text R.lacks_text S.left S.failed W.written W.failed surroundings.now
-        words input.old input.new output.old output.new result }
+        → AnswersWords R.world R.File.left R.File.failed S.left S.failed W.written W.failed surroundings.now words input.old input.new output.old output.new result }
 {
     let table = table(surroundings, line.entities)?;
     let quirks = quirks(surroundings, line.quirks)?;
@@ -122,10 +118,9 @@ fn answer_with<'a, R: Surroundings, S: Source, W: Target>(
 ) -> Result<(), Fault<'a>>
     requires { 0 < line.command.piece }
     ensures { (words : List Text) → SaysLine (task_of words) (option_value words) line.entry
-        → FindsTable R.has_text R.lacks_text surroundings.now (option_map (λ s. s.now) line.entry.entities) (Ok table.now)
-        → FindsQuirks R.has_text R.lacks_text surroundings.now (option_map (λ s. s.now) line.entry.quirks) (Ok quirks.now)
-        → AnswersWords R.opens R.cannot_open R.File.left R.File.failed R.has_text R.lacks_text S.left S.failed W.written W.failed surroundings.now
-        words input.old input.new output.old output.new result }
+        → FindsTable R.world surroundings.now (option_map (λ s. s.now) line.entry.entities) (Ok table.now)
+        → FindsQuirks R.world surroundings.now (option_map (λ s. s.now) line.entry.quirks) (Ok quirks.now)
+        → AnswersWords R.world R.File.left R.File.failed S.left S.failed W.written W.failed surroundings.now words input.old input.new output.old output.new result }
 {
     let limits = limits(line.nodes, line.open)?;
     let name = line.command.context;
@@ -154,7 +149,6 @@ fn answer_with<'a, R: Surroundings, S: Source, W: Target>(
     }
 }
 
-/// The limits of these most nodes and most open elements.
 fn limits<'a>(nodes: u64, depth: u64) -> Result<Limits, Fault<'a>>
     ensures { let said : Bounds = record { input = MAX_INPUT; tree = record { nodes = nodes; depth = depth } } in
         MatchResult result (λ l. AreLimits said × (l ≡ said)) (λ why. (AreLimits said → ⊥) × IsLimitFault said.tree why) }
@@ -181,8 +175,8 @@ fn bad_limit(nodes: u64) -> Numeric
 /// The table of character references: that of the named file, or the core table.
 fn table<'a, R: Surroundings>(surroundings: &R, name: Option<&'a str>) -> Result<Table, Fault<'a>>
     ensures { MatchResult result
-        (λ table. FindsTable R.has_text R.lacks_text surroundings.now (option_map (λ s. s.now) name.entry) (Ok table))
-        (λ why. FindsTable R.has_text R.lacks_text surroundings.now (option_map (λ s. s.now) name.entry) (Err why)) }
+        (λ table. FindsTable R.world surroundings.now (option_map (λ s. s.now) name.entry) (Ok table))
+        (λ why. FindsTable R.world surroundings.now (option_map (λ s. s.now) name.entry) (Err why)) }
 {
     match name {
         None => Ok(Table::core(surroundings.alloc())?),
@@ -199,8 +193,8 @@ fn table<'a, R: Surroundings>(surroundings: &R, name: Option<&'a str>) -> Result
 /// The quirks list: that of the named file, or the empty one.
 fn quirks<'a, R: Surroundings>(surroundings: &R, name: Option<&'a str>) -> Result<Quirks, Fault<'a>>
     ensures { MatchResult result
-        (λ quirks. FindsQuirks R.has_text R.lacks_text surroundings.now (option_map (λ s. s.now) name.entry) (Ok quirks))
-        (λ why. FindsQuirks R.has_text R.lacks_text surroundings.now (option_map (λ s. s.now) name.entry) (Err why)) }
+        (λ quirks. FindsQuirks R.world surroundings.now (option_map (λ s. s.now) name.entry) (Ok quirks))
+        (λ why. FindsQuirks R.world surroundings.now (option_map (λ s. s.now) name.entry) (Err why)) }
 {
     match name {
         None => Ok(Quirks::read(surroundings.alloc(), "")?),
@@ -214,7 +208,6 @@ fn quirks<'a, R: Surroundings>(surroundings: &R, name: Option<&'a str>) -> Resul
     }
 }
 
-/// Runs the command over an input of this name.
 fn answer_input<'a, S: Source, W: Target>(
     alloc: Global,
     command: Command,

@@ -19,29 +19,25 @@ returns-in_err-matches-clause-memory c =
 
 pub said-line-requires : goal.said-line-requires
 said-line-requires c =
-    names_a_task c.in_ok-command_line.field-0 c.in_ok-matches.matches c.unwrap.result c.subcommand.result (map string_bytes c.args.words.now) c.in_ok-command_line.ensures c.in_ok-matches.ensures.matches
-    c.unwrap.ensures c.subcommand.ensures.rows c.subcommand.ensures.name
+    names_a_task _ _ _ c.in_ok-command_line.ensures c.in_ok-matches.ensures.matches c.unwrap.ensures c.subcommand.ensures.rows c.subcommand.ensures.name
 
 pub returns-clause-says : goal.returns-clause-says
 returns-clause-says c =
-    let (task, value) = task_and_values c.in_ok-command_line.field-0 c.in_ok-matches.matches c.unwrap.result c.subcommand.result (map string_bytes c.args.words.now) c.in_ok-command_line.ensures c.in_ok-matches.ensures.matches
-    c.unwrap.ensures c.subcommand.ensures.rows c.subcommand.ensures.name in
-    said c.said-line.result _ _ _ _ task value c.said-line.ensures.says
+    let (task, value) = task_and_values _ _ _ c.in_ok-command_line.ensures c.in_ok-matches.ensures.matches c.unwrap.ensures c.subcommand.ensures.rows c.subcommand.ensures.name in
+    said _ task value c.said-line.ensures.says
 
 pub returns-clause-taken : goal.returns-clause-taken
 returns-clause-taken c =
     let is = c.in_ok-command_line.ensures in
-    anyway c.said-line.result (ap (λ app. fault_of app (map string_bytes c.args.words.now)) (sym is) ∙ c.in_ok-matches.ensures.kinds (ap is_simple_and_free is ∙ program-free))
+    anyway _ (ap (λ app. fault_of app (map string_bytes c.args.words.now)) (sym is) ∙ c.in_ok-matches.ensures.kinds (ap is_simple_and_free is ∙ program-free))
 
 pub returns-clause-fault : goal.returns-clause-fault
 returns-clause-fault c =
     let is = c.in_ok-command_line.ensures in
-    let (task, value) = task_and_values c.in_ok-command_line.field-0 c.in_ok-matches.matches c.unwrap.result c.subcommand.result (map string_bytes c.args.words.now) is c.in_ok-matches.ensures.matches
-    c.unwrap.ensures c.subcommand.ensures.rows c.subcommand.ensures.name in
-    says_fault c.said-line.result (map string_bytes c.args.words.now) _ _ (ap (λ app. fault_of app (map string_bytes c.args.words.now)) (sym is) ∙ c.in_ok-matches.ensures.kinds (ap is_simple_and_free is ∙ program-free)) value c.said-line.ensures.says
+    let (task, value) = task_and_values _ _ _ is c.in_ok-matches.ensures.matches c.unwrap.ensures c.subcommand.ensures.rows c.subcommand.ensures.name in
+    says_fault _ (map string_bytes c.args.words.now) _ (ap (λ app. fault_of app (map string_bytes c.args.words.now)) (sym is) ∙ c.in_ok-matches.ensures.kinds (ap is_simple_and_free is ∙ program-free)) value c.said-line.ensures.says
 
 pub returns-clause-memory : goal.returns-clause-memory
 returns-clause-memory c =
-    let (task, value) = task_and_values c.in_ok-command_line.field-0 c.in_ok-matches.matches c.unwrap.result c.subcommand.result (map string_bytes c.args.words.now) c.in_ok-command_line.ensures c.in_ok-matches.ensures.matches
-    c.unwrap.ensures c.subcommand.ensures.rows c.subcommand.ensures.name in
-    no_fault c.said-line.result (map string_bytes c.args.words.now) _ _ value c.said-line.ensures.says
+    let (task, value) = task_and_values _ _ _ c.in_ok-command_line.ensures c.in_ok-matches.ensures.matches c.unwrap.ensures c.subcommand.ensures.rows c.subcommand.ensures.name in
+    no_fault _ (map string_bytes c.args.words.now) _ value c.said-line.ensures.says

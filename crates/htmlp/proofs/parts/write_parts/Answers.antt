@@ -6,13 +6,11 @@ use Rattle.htmlp.proofs.parts.write_parts.Goals as goal
 pub returns-in_err-write_all : goal.returns-in_err-write_all
 returns-in_err-write_all g c =
     let told = c.in_err-write_all.ensures in
-    next_failed _ _ _ _ _ _ c.args.parts.now c.loop-part.part-index _ _ c.loop-part-test.true c.as_bytes.ensures.value c.loop-part.invariant _ _
-    c.from_residual.ensures.1 (told.cause, told.beginning, told.count)
+    next_failed _ _ _ _ _ _ _ _ _ _ c.loop-part-test.true c.as_bytes.ensures.value c.loop-part.invariant _ _ c.from_residual.ensures.1 (told.cause, told.beginning, told.count)
 
 pub loop-part-preserved : goal.loop-part-preserved
 loop-part-preserved g c =
-    next_written _ _ _ _ _ _ c.args.parts.now c.loop-part.part-index _ _ c.loop-part-test.true c.as_bytes.ensures.value c.loop-part.invariant
-    (c.in_ok-write_all.ensures.all, c.in_ok-write_all.ensures.count)
+    next_written _ _ _ _ _ _ _ _ _ _ c.loop-part-test.true c.as_bytes.ensures.value c.loop-part.invariant (c.in_ok-write_all.ensures.all, c.in_ok-write_all.ensures.count)
 
 pub returns : goal.returns
 returns g c =

@@ -4,16 +4,11 @@ use Rattle.htmlp.proofs.Outcomes.{passed_on}
 use Rattle.htmlp.proofs.program.answer_line.Goals as goal
 
 pub returns-in_err-table : goal.returns-in_err-table
-returns-in_err-table g c = λ words says.
-    let e = c.in_err-table.field-0.0 in
-    words_without e (table_missing g.R.Surroundings.has_text g.R.Surroundings.lacks_text c.args.surroundings.now words c.args.line says e c.in_err-table.ensures)
-    (passed_on c.from_residual.result e c.from_residual.ensures.1) refl refl
+returns-in_err-table g c = λ words says. words_without _ (table_missing _ _ _ _ says c.in_err-table.ensures) (passed_on c.from_residual.ensures.1) refl refl
 
 pub returns-in_err-quirks : goal.returns-in_err-quirks
 returns-in_err-quirks g c = λ words says.
-    let e = c.in_err-quirks.field-0.0 in
-    words_without e (quirks_missing g.R.Surroundings.has_text g.R.Surroundings.lacks_text c.args.surroundings.now words c.args.line says c.in_ok-table.table e c.in_ok-table.ensures c.in_err-quirks.ensures)
-    (passed_on c.from_residual-in_err-quirks.result e c.from_residual-in_err-quirks.ensures.1) refl refl
+    words_without _ (quirks_missing _ _ _ _ says _ c.in_ok-table.ensures c.in_err-quirks.ensures) (passed_on c.from_residual-in_err-quirks.ensures.1) refl refl
 
 pub returns : goal.returns
 returns g c = λ words says. c.answer_with-outcome.ensures words says c.in_ok-table.ensures c.in_ok-quirks.ensures

@@ -7,10 +7,10 @@ returns-in-Ok g c =
     record {
       outcome = c.answer-outcome.result;
       answered = c.answer-outcome.ensures
-          (subst (λ words. g.R.Surroundings.has_words c.args.surroundings.now (map string_bytes words)) (sym c.deref.ensures.value) c.in-Ok.ensures);
+          (subst (λ words. g.R.Surroundings.world.has_words c.args.surroundings.now (map string_bytes words)) (sym c.deref.ensures.value) c.in-Ok.ensures);
       explains = c.explains.result;
       explains_is = with_words _
-          (subst (λ words. g.R.Surroundings.has_words c.args.surroundings.now (map string_bytes words)) (sym c.deref-in-Ok.ensures.value) c.in-Ok.ensures)
+          (subst (λ words. g.R.Surroundings.world.has_words c.args.surroundings.now (map string_bytes words)) (sym c.deref-in-Ok.ensures.value) c.in-Ok.ensures)
           c.explains.ensures;
       told = c.ending.ensures.text;
       status_is = c.ending.ensures.status;

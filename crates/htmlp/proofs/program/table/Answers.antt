@@ -4,11 +4,7 @@ use Rattle.htmlp.proofs.Lists.{list_read, list_refused}
 use Rattle.htmlp.proofs.program.table.Goals as goal
 
 pub returns-in-Ok : goal.returns-in-Ok
-returns-in-Ok g c =
-    list_read g.R.Surroundings.has_text g.R.Surroundings.lacks_text core ReadsTable c.args.surroundings.now c.args.name c.in-Some.file c.in-Some.is _ _ c.deref.ensures
-    c.in_ok-text-in-Some.ensures.text c.in-Ok.table c.in-Ok.ensures.ok
+returns-in-Ok g c = list_read g.R.Surroundings.world core ReadsTable c.args.surroundings.now c.in-Some.is c.deref.ensures c.in_ok-text-in-Some.ensures.text _ c.in-Ok.ensures.ok
 
 pub returns : goal.returns
-returns g c =
-    list_refused g.R.Surroundings.has_text g.R.Surroundings.lacks_text core ReadsTable c.args.surroundings.now c.args.name c.in-Some.file c.in-Some.is _ _ c.deref.ensures
-    c.in_ok-text-in-Some.ensures.text c.in-Err.refusal c.in-Err.ensures.err
+returns g c = list_refused g.R.Surroundings.world core ReadsTable c.args.surroundings.now c.in-Some.is c.deref.ensures c.in_ok-text-in-Some.ensures.text _ c.in-Err.ensures.err

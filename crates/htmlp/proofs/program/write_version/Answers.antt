@@ -6,7 +6,7 @@ pub returns-in_err-write_text : goal.returns-in_err-write_text
 returns-in_err-write_text g c = record {
   answer = Err c.in_err-write_text.field-0.0;
   writes_text = c.in_err-write_text.ensures.text;
-  outcome_is = refused c.from_residual.result c.in_err-write_text.field-0.0 c.from_residual.ensures.1;
+  outcome_is = refused _ _ c.from_residual.ensures.1;
 }
 
 pub returns : goal.returns
