@@ -50,8 +50,7 @@ same_without how none = record { written_is = refl; size_is = refl; depth_is = r
 same_without how (tree n (forest.doctype name public_id system_id) kids rest) =
     let s = same_without how rest in record {
       written_is = ap (λ x. (codes "<!DOCTYPE " ++ name ++ codes ">") ++ x) s.written_is;
-      size_is =
-          ap (λ x. 1 + (size kids + x)) s.size_is;
+      size_is = ap (λ x. 1 + (size kids + x)) s.size_is;
       depth_is = s.depth_is;
     }
 same_without how (tree n w kids rest) = with_node how n w kids rest (without_identifiers rest) (same_without how rest)

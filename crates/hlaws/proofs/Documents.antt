@@ -1,5 +1,5 @@
 -- The tokens of a plain document build it: its parts in their order, each in the insertion mode that takes it.
-use Rattle.hlaws.proofs.Names.{◌≡◌, ℕ, suc, ◌+◌, ◌<◌, ◌≤◌, Bool, true, false, ◌&&◌, cond, List, [], ◌∷◌, ◌++◌, length, map, None, Some, refl, sym, ◌∙◌, ap, subst, arith, inl, and_parts, ne_eqb, lt-leb, false≢true, nat_le, bytes_eq, bytes_eq-Decides, codes, chars, Attribute, What, element, text, Forest, none, tree, size, times, join, graft_last, if_text, text_before, LastIn, OpenNode, is_space, is_void, tag_named, Tag, texts, Goes, Start, End, Comment, Mode, InBody, Text, family_of, rule_of, perform, void, raw, Token, start, end, comment, character, eof, PlacedToken, Control, State, Done, Rule, step_begun, ends, goes_again, Step, goes, Steps, and, Inside, inside_element, are_content, plain_tokens, numbered_forest, under, AreTexts, Thinned, same, Listed, with_error, Limits, document_begins, flow_of, mode_error, Again, kind_of, is_self_closing, Chain, is_dropped, finished, put, Initial, BeforeHtml, BeforeHead, InHead, AfterHead, AfterBody, AfterAfterBody, TokenKind, Ws, Doctype, is_plain, is_plain_text, is_plain_comment, are_plain_attributes, is_empty_text, is_leaf, leaves_then, comments_then, doctype_then, element_then, is_metadata, inside_head, are_metadata, body_on, are_in_html, html_on, is_plain_document, Texts, ActsAs, depth, is_flow_mode, is_character_token, PlainDocumentBuilds}
+use Rattle.hlaws.proofs.Names.{rules as std_rules, ◌≡◌, ℕ, suc, ◌+◌, ◌<◌, ◌≤◌, Bool, true, false, ◌&&◌, cond, List, [], ◌∷◌, ◌++◌, length, map, None, Some, refl, sym, ◌∙◌, ap, subst, arith, inl, and_parts, ne_eqb, lt-leb, false≢true, nat_le, bytes_eq, bytes_eq-Decides, codes, chars, Attribute, What, element, text, Forest, none, tree, size, times, join, graft_last, if_text, text_before, LastIn, OpenNode, is_void, tag_named, Tag, texts, Goes, Start, End, Comment, Mode, InBody, Text, family_of, rule_of, perform, void, raw, Token, start, end, comment, character, eof, PlacedToken, Control, State, Done, Rule, step_begun, ends, goes_again, Step, goes, Steps, and, Inside, inside_element, are_content, plain_tokens, numbered_forest, under, AreTexts, Thinned, same, Listed, with_error, Limits, document_begins, flow_of, mode_error, Again, kind_of, is_self_closing, Chain, is_dropped, finished, put, Initial, BeforeHtml, BeforeHead, InHead, AfterHead, AfterBody, AfterAfterBody, TokenKind, Ws, is_plain, is_plain_text, is_plain_comment, are_plain_attributes, is_empty_text, is_leaf, leaves_then, comments_then, doctype_then, element_then, is_metadata, inside_head, are_metadata, body_on, are_in_html, html_on, is_plain_document, Texts, ActsAs, depth, is_flow_mode, is_character_token, PlainDocumentBuilds}
 use Rattle.hnodes.specs.Forest as forest
 use Rattle.hadopt.specs.Inserts.{added}
 use Rattle.hmodes.specs.Doctypes.{forces_quirks}
@@ -128,13 +128,13 @@ module _ (limits : Limits) where
   -- ONE PART AFTER ANOTHER
 
   -- a node, and the list after it
-  node_then : {Mid There : Stage} (b : ℕ) (w : What Name) (kids rest : Forest Name) (d k : ℕ) → At rest d k Mid There
-      → (made : ℕ) (f : Forest Name) (s : State Name) (ts : List (PlacedToken Name)) (us : List (Token Name)) → Spot made f d
+  node_then : {Mid There : Stage} {b : ℕ} {w : What Name} {kids rest : Forest Name} {d : ℕ} {made : ℕ} {f : Forest Name} {s : State Name}
+      {ts : List (PlacedToken Name)} (k : ℕ) → At rest d k Mid There → (us : List (Token Name)) → Spot made f d
       → (begins_text rest ≡ true → is_text w ≡ false) → made + (1 + (size kids + size rest)) ≤ limits.nodes → k + depth rest ≤ limits.depth
       → AreTokens ts (us ++ plain_tokens texts rest)
       → ((front : List (PlacedToken Name)) → AreTokens front us → Adds (tree b w kids none) made f d s Mid front)
       → Adds (tree b w kids rest) made f d s There ts
-  node_then {Mid} {There} b w kids rest d k law made f s ts us q unlike room deep h node_law =
+  node_then {Mid} {There} {b} {w} {kids} {rest} {d} {made} {f} {s} {ts} k law us q unlike room deep h node_law =
       let p = parted ts us (plain_tokens texts rest) h in
       let head = node_law p.front p.fronts in
       let one : Forest Name = tree b w kids none in
@@ -164,10 +164,10 @@ module _ (limits : Limits) where
   leaf_then : {Here There : Stage} (which : Texts) (d k : ℕ) → LeafLaw which d Here → (b : ℕ) (w : What Name) (kids rest : Forest Name)
       → AreTexts (tree b w kids rest) → is_leaf which w kids rest ≡ true → At rest d k Here There → At (tree b w kids rest) d k Here There
   leaf_then which d k leaf b (forest.comment t) none rest u is others made f s ts q here no_text room deep tokens =
-      node_then b (forest.comment t) none rest d k others made f s ts (comment t ∷ []) q (λ e. refl) room deep tokens
+      node_then k others (comment t ∷ []) q (λ e. refl) room deep tokens
       (λ front e. leaf b (forest.comment t) rest made f s front u is q here (λ x. absurd cc) (omega arith) e)
   leaf_then which d k leaf b (text t) none rest u is others made f s ts q here no_text room deep tokens =
-      node_then b (text t) none rest d k others made f s ts (map (λ c. character c) (chars t)) q (λ e. absurd (text_next rest is e)) room deep tokens
+      node_then k others (map (λ c. character c) (chars t)) q (λ e. absurd (text_next rest is e)) room deep tokens
       (λ front e. leaf b (text t) rest made f s front u is q here no_text (omega arith) e)
     where
       text_next : (rest : Forest Name) → is_leaf which (text t) none rest ≡ true → begins_text rest ≡ true → ⊥
@@ -201,10 +201,10 @@ module _ (limits : Limits) where
   not_dropped _ s h = refl
 
   -- one token alone
-  one_token : {There : Stage} (t : Token Name) (l : Forest Name) (made : ℕ) (f : Forest Name) (d : ℕ) (s : State Name) (ts : List (PlacedToken Name))
+  one_token : {There : Stage} {t : Token Name} {l : Forest Name} {made : ℕ} {f : Forest Name} {d : ℕ} {s : State Name} {ts : List (PlacedToken Name)}
       → is_character_token t ≡ false → AreTokens ts (t ∷ [])
       → ((at : ℕ) → Leads t at s There (made + size l) (under d (numbered_forest made l) f)) → Adds l made f d s There ts
-  one_token t l made f d s ts other tokens leads =
+  one_token {t = t} {s = s} {ts = ts} other tokens leads =
       let p = first ts t [] tokens in
       let o = leads p.at in
       record {
@@ -240,13 +240,13 @@ module _ (limits : Limits) where
   to_mode m c = record c { mode = m }
 
   -- a token that is done with by the rule of the mode
-  by_rule : (t : Token Name) (k : TokenKind) (m m' : Mode) (opened left : Open) (g : Control → Control) (at made made' : ℕ) (f f' : Forest Name)
-      (s : State Name) → kind_of texts t ≡ k → is_character_token t ≡ false → is_self_closing t ≡ false
+  by_rule : {t : Token Name} {k : TokenKind} {m m' : Mode} {opened left : Open} {at made made' : ℕ} {f f' : Forest Name} {s : State Name}
+      (g : Control → Control) → kind_of texts t ≡ k → is_character_token t ≡ false → is_self_closing t ≡ false
       → Becomes m m' g → (here : ActsIn limits m opened made f s)
       → perform texts at t (rule_of m k) (state here.z made f opened [] (begun_control here.c))
       ≡ Done (state here.z made' f' left [] (g (begun_control here.c)))
       → Leads t at s (In limits m' left) made' f'
-  by_rule t k m m' opened left g at made made' f f' s kind other unclosed becomes here done =
+  by_rule {t} {k} {m} {opened = opened} {left = left} {at = at} {made = made} {made' = made'} {f = f} {f' = f'} g kind other unclosed becomes here done =
       let c : Control = begun_control here.c in
       let s0 : State Name = state here.z made f opened [] c in
       let s1 : State Name = state here.z made' f' left [] (g c) in
@@ -271,9 +271,7 @@ module _ (limits : Limits) where
       → made < limits.nodes → AreTokens ts (comment t ∷ []) → Adds (tree b (forest.comment t) none none) made f d s (In limits m opened) ts
   comment_adds m opened d puts b t made f s ts q here room tokens =
       let grown = graft-new d made (forest.comment t) f (q.free made (omega arith)) in
-      one_token (comment t) (tree b (forest.comment t) none none) made f d s ts refl tokens
-      (λ at. by_rule (comment t) Comment m m opened opened (λ c. c) at made (made + 1) f (under d (tree made (forest.comment t) none none) f) s refl refl refl
-      (λ c e. (e, refl, refl)) (itself here)
+      one_token refl tokens (λ at. by_rule (λ c. c) refl refl refl (λ c e. (e, refl, refl)) (itself here)
       (puts here.z at made t f (begun_control here.c) ∙ simp (node_fits here.stands made room, grown) refl))
 
   comments : (m : Mode) (opened : Open) (d : ℕ) → PutsComments m opened d → LeafLaw allowed.None d (In limits m opened)
@@ -289,9 +287,8 @@ module _ (limits : Limits) where
       comment_adds m (x ∷ up) x.node puts b t made f s ts q here room tokens
   spaces m x up puts ws b (text t) rest made f s ts u is q here no_text room tokens =
       let i : IsText t = text_is t u.0 (grind arith) (grind arith) in
-      let k = whole.text_built texts text_laws here.z x up [] m is_space (rules.space_puts texts here.z x up [] m ws) made f q.once
-      (q.free made (omega arith)) t i here.c ts here.stands.mode (rw here.no_drop refl) (spaced t i u.0 (grind arith)) (no_text refl)
-      (let y = here.stands.nodes in omega arith) tokens in
+      let k = whole.text_built texts text_laws here.z (rules.space_puts texts here.z x up [] m ws) q.once (q.free made (omega arith))
+      i here.stands.mode (rw here.no_drop refl) (spaced t i u.0 (grind arith)) (no_text refl) (let y = here.stands.nodes in omega arith) tokens in
       let s1 : State Name = state here.z (made + 1) (under x.node (tree made (text t) none none) f) (x ∷ up) [] (begun_control here.c) in
       record {
         reached = s1;
@@ -350,9 +347,8 @@ module _ (limits : Limits) where
 
       at_x : At (tree b (element x attrs) kids rest) d k Here There
       at_x made f s ts q here no_text room deep tokens =
-          node_then b (element x attrs) kids rest d k (law rest u.3 f4.3) made f s ts (start x attrs false ∷ plain_tokens texts kids ++ end x ∷ []) q (λ e. refl)
-          room (omega arith) (whole.mapped texts b x attrs kids rest ts no_void tokens)
-          (λ front e. one_adds made f s front q here (omega arith) (omega arith) e)
+          node_then k (law rest u.3 f4.3) (start x attrs false ∷ plain_tokens texts kids ++ end x ∷ []) q (λ e. refl) room (omega arith)
+          (whole.mapped texts b x attrs kids rest ts no_void tokens) (λ front e. one_adds made f s front q here (omega arith) (omega arith) e)
   element_adds x children next d k no_void opening kids_law closing law _ u h = absurd (false≢true h)
 
   -- a start tag whose rule inserts its element last into node d, opens it and goes to a mode
@@ -364,8 +360,7 @@ module _ (limits : Limits) where
       ≡ Done (state z (made + 1) (under d (tree made (element x attrs) none none) f) (node made x ∷ opened) [] (g made c)))
       → Opens x d (length opened) (In limits m opened) (λ e. In limits m' (node e x ∷ opened))
   opens x m m' opened d g becomes rule attrs at made f s q here room deep =
-      by_rule (start x attrs false) (Start (family_of (tag_named x))) m m' opened (node made x ∷ opened) (g made) at made (made + 1) f
-      (under d (tree made (element x attrs) none none) f) s refl refl refl (becomes made) (itself here)
+      by_rule (g made) refl refl refl (becomes made) (itself here)
       (rule here.z attrs at made f (begun_control here.c) (node_fits here.stands made room) (open_fits here.stands (length opened) deep)
       (graft-new d made (element x attrs) f (q.free made (omega arith))))
 
@@ -375,8 +370,7 @@ module _ (limits : Limits) where
       → perform texts at (end x) (rule_of m (End (family_of (tag_named x)))) (state z made f opened [] c) ≡ Done (state z made f left [] (to_mode m' c)))
       → Closes x (ActsIn limits m opened) (In limits m' left)
   closes x m m' opened left rule at made f s here =
-      by_rule (end x) (End (family_of (tag_named x))) m m' opened left (to_mode m') at made made f f s refl refl refl (λ c e. (refl, refl, refl)) here
-      (rule here.z at made f (begun_control here.c) here.stands.no_context)
+      by_rule (to_mode m') refl refl refl (λ c e. (refl, refl, refl)) here (rule here.z at made f (begun_control here.c) here.stands.no_context)
 
   -- HEAD
 
@@ -443,9 +437,7 @@ module _ (limits : Limits) where
       void_adds : head_rule (Start (family_of (tag_named x))) ≡ void → (ts : List (PlacedToken Name)) → AreTokens ts (start x attrs false ∷ [])
           → Adds (tree b (element x attrs) none none) made f e s InTheHead ts
       void_adds rule ts tokens =
-          one_token (start x attrs false) (tree b (element x attrs) none none) made f e s ts refl tokens
-          (λ at. by_rule (start x attrs false) (Start (family_of (tag_named x))) InHead InHead in_the_head in_the_head (λ c. record c { acknowledged = true })
-          at made (made + 1) f (under e leaf f) s refl refl refl (λ c k. (k, refl, refl)) (itself here)
+          one_token refl tokens (λ at. by_rule (λ c. record c { acknowledged = true }) refl refl refl (λ c k. (k, refl, refl)) (itself here)
           (ap (λ r. perform texts at (start x attrs false) r now) rule ∙ simp (full, high, grown) refl))
 
       raw_adds : (kids : Forest Name) → head_rule (Start (family_of (tag_named x))) ≡ raw → OneText texts text_laws here.z kids
@@ -484,20 +476,16 @@ module _ (limits : Limits) where
         by_class others (a_void v rule empty) =
             subst (λ (l : Forest Name). At (tree b (element x attrs) l rest) e 2 InTheHead InTheHead)
             (sym (whole.good-empty texts text_laws (document_begins [] limits) inside kids empty g))
-            (λ made f s ts q here no_text room deep tokens. node_then b (element x attrs) none rest e 2 others made f s ts (start x attrs false ∷ []) q
-            (λ y. refl) room (omega arith) (tokens ∙ rw v refl)
+            (λ made f s ts q here no_text room deep tokens. node_then 2 others (start x attrs false ∷ []) q (λ y. refl) room (omega arith) (tokens ∙ rw v refl)
             (λ front k. void_adds b x attrs made f s q here (omega arith) (omega arith) rule front k))
         by_class others (a_raw v rule holds) = λ made f s ts q here no_text room deep tokens.
-            node_then b (element x attrs) kids rest e 2 others made f s ts (start x attrs false ∷ plain_tokens texts kids ++ end x ∷ []) q (λ y. refl) room
-            (omega arith) (whole.mapped texts b x attrs kids rest ts v tokens)
-            (λ front k. raw_adds b x attrs made f s q here (omega arith) (omega arith) kids rule
+            node_then 2 others (start x attrs false ∷ plain_tokens texts kids ++ end x ∷ []) q (λ y. refl) room (omega arith)
+            (whole.mapped texts b x attrs kids rest ts v tokens) (λ front k. raw_adds b x attrs made f s q here (omega arith) (omega arith) kids rule
             (whole.raw_kids texts text_laws here.z inside kids (no_comment inside.content holds) (λ r. no_role inside.content r holds) g) (omega arith)
             front k)
-    metadata_adds (tree b (forest.comment t) kids rest) u is = let p =
-        and_parts _ _ is in leaf_then allowed.WhiteSpace e 2 head_leaf b (forest.comment t) kids rest u p.0 (metadata_adds rest u.2 p.1)
-    metadata_adds (tree b (text t) kids rest) u is = let p =
-        and_parts _ _ is in leaf_then allowed.WhiteSpace e 2 head_leaf b (text t) kids rest u p.0 (metadata_adds rest u.2 p.1)
-    metadata_adds _ u is = absurd (false≢true is)
+    metadata_adds (tree b w kids rest) u is =
+        let p = and_parts (is_leaf allowed.WhiteSpace w kids rest) (are_metadata rest) is in
+        leaf_then allowed.WhiteSpace e 2 head_leaf b w kids rest u p.0 (metadata_adds rest (texts_after b w kids rest u) p.1)
 
   -- BODY
 
@@ -506,20 +494,9 @@ module _ (limits : Limits) where
   body_adds h b low l u is made f s ts q here no_text room deep tokens =
       let inside : Inside = record { content = content.Flow; texts = allowed.Any; in_a = false; in_button = false; in_form = false } in
       let s0 : State Name = state here.z made f (body_node b ∷ html_node h ∷ []) [] here.c in
-      let quiet : Quiet texts here.z.context inside made f (body_node b) (html_node h ∷ []) [] here.c = record {
-        mode_is = sym here.stands.mode;
-        mode_fits = ap is_flow_mode here.stands.mode;
-        current_fits = refl;
-        once = q.once;
-        fresh = q.free;
-        lower = (q.low, ((let y = q.low in omega arith), tt));
-        entries_lower = tt;
-        listed = tt;
-        no_p = λ y. refl;
-        no_button = λ y. refl;
-        no_a = λ y n e. refl;
-        no_form = λ y. here.stands.form;
-      } in
+      let quiet : Quiet texts here.z.context inside made f (body_node b) (html_node h ∷ []) [] here.c =
+      let mode = sym here.stands.mode in let fits = ap is_flow_mode here.stands.mode in let below : h < made = (let y = q.low in omega arith) in
+      let form = here.stands.form in search std_rules in
       let k = whole.builds texts text_laws here.z l inside made f (body_node b) (html_node h ∷ []) [] here.c s0 ts quiet (good inside l (inl refl) u is)
       (λ at t o e chain. chain) (λ e. refl) no_text
       (subst (λ (v : Bool). LfSafe v l) (sym here.no_drop) (lf_safe false l refl)) (let y = here.stands.nodes in omega arith)
@@ -591,10 +568,8 @@ module _ (limits : Limits) where
         z = z1;
         c = c1;
         is = refl;
-        stands =
-            record { mode = refl; form = here.stands.form; no_context = here.stands.no_context; nodes = here.stands.nodes; deep = here.stands.deep };
-        no_drop =
-            refl;
+        stands = record { mode = refl; form = here.stands.form; no_context = here.stands.no_context; nodes = here.stands.nodes; deep = here.stands.deep };
+        no_drop = refl;
       }) room deep in
       (o.0, subst (λ (v : State Name). Chain texts at t (step_begun v) (Goes o.0)) (sym here.is) (goes_again missing o.1), o.2)
 
@@ -606,10 +581,8 @@ module _ (limits : Limits) where
   doctype_node b made f s ts q here room tokens =
       let w : What Name = forest.doctype (codes "html") [] [] in
       let grown = graft-new 0 made w f (q.free made (omega arith)) in
-      one_token html_doctype (tree b w none none) made f 0 s ts refl tokens
-      (λ at. by_rule html_doctype Doctype Initial BeforeHtml [] [] (λ c. record c { quirks = forces_quirks here.z html_doctype; mode = BeforeHtml }) at made
-      (made + 1) f (under 0 (tree made w none none) f) s refl refl refl (λ c e. (refl, refl, refl)) (itself here)
-      (simp (node_fits here.stands made room, grown) refl))
+      one_token refl tokens (λ at. by_rule (λ c. record c { quirks = forces_quirks here.z html_doctype; mode = BeforeHtml }) refl refl refl
+      (λ c e. (refl, refl, refl)) (itself here) (simp (node_fits here.stands made room, grown) refl))
 
   empty_is : (t : Name) → is_empty_text t ≡ true → t ≡ []
   empty_is [] h = refl
@@ -623,8 +596,7 @@ module _ (limits : Limits) where
       let y : system_id ≡ [] = empty_is system_id (grind arith) in
       subst (λ (l : Forest Name). At l 0 0 (In limits Initial []) Last) (λ i. tree b (forest.doctype (sym n i) (sym p i) (sym y i)) none rest)
       (λ made f s ts q here no_text room deep tokens.
-      node_then b (forest.doctype (codes "html") [] []) none rest 0 0 (law rest u.1 (grind arith)) made f s ts (html_doctype ∷ []) q (λ e. refl) room deep
-      tokens (λ front e. doctype_node b made f s front q here (omega arith) e))
+      node_then 0 (law rest u.1 (grind arith)) (html_doctype ∷ []) q (λ e. refl) room deep tokens (λ front e. doctype_node b made f s front q here (omega arith) e))
   doctype_adds next without law (tree b (forest.doctype name public_id system_id) (tree m w ks more) rest) u h = absurd (grind arith)
   doctype_adds next without law l u h = without l u h
 

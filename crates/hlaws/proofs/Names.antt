@@ -81,7 +81,7 @@ pub use Rattle.names.specs.declared.raw.RefusedName.{RefusedName}
 pub use Rattle.names.specs.declared.refusal.Refusal.{Refusal}
 pub use Rattle.names.specs.declared.refusal.Refusal.TheVariants.{OutOfProfile}
 pub use Rattle.names.specs.declared.tag.Tag.{Tag}
-pub use Rattle.std.proofs.Common.{◌≡◌, ℕ, ◌≤◌, List, ◌++◌, length, map, None, Ok, refl, sym, ap, ◌∙◌, subst, Bool, true, not, ◌&&◌, ◌||◌, ◌+◌, false, [], ◌∷◌, Some, arith, ◌⊎◌, inl, inr, Option, zero, suc, ◌<◌, eqb, cond, Result, Err, append-nil, append_assoc, nat_eq, true≢false, drop, nat_lt, take, option_and_then, filter, Contains}
+pub use Rattle.std.proofs.Common.{◌≡◌, ℕ, ◌≤◌, List, ◌++◌, length, map, None, Ok, refl, sym, ap, ◌∙◌, subst, Bool, true, not, ◌&&◌, ◌||◌, ◌+◌, false, [], ◌∷◌, Some, arith, ◌⊎◌, inl, inr, Option, zero, suc, ◌<◌, eqb, cond, Result, Err, append-nil, append_assoc, nat_eq, true≢false, drop, nat_lt, take, option_and_then, filter, Contains, rules}
 pub use Rattle.std.proofs.Math.Utf8.{scalar, scalars, low_scalar}
 pub use Rattle.std.proofs.lemmas.Bool.{false≢true, ne_eqb, and_parts, eqb-true, lt-leb, not-true, eq-eqb, or_right, and_right, or_from, or_parts, and_from, false_from_ne_true, ltb-true, cond_both, or_left}
 pub use Rattle.std.proofs.lemmas.Bool.Decides.{nat_tests}

@@ -1,5 +1,5 @@
 -- The tokens of a plain list build it from each quiet state.
-use Rattle.hlaws.proofs.Names.{◌≡◌, ℕ, suc, ◌+◌, ◌≤◌, Bool, true, false, not, List, ◌∷◌, length, refl, sym, ap, subst, arith, Forest, size, texts, State, BuildsForest, begins_with_line_feed, trees, PlainBuilds}
+use Rattle.hlaws.proofs.Names.{rules, ◌≡◌, ℕ, suc, ◌+◌, ◌≤◌, Bool, true, false, not, List, ◌∷◌, length, refl, sym, ap, subst, arith, Forest, size, texts, State, BuildsForest, begins_with_line_feed, trees, PlainBuilds}
 use Rattle.hlaws.specs.Building as spec
 use Rattle.hlaws.proofs.FromTable.{good, lf_safe}
 use Rattle.hlaws.proofs.NamesAsTexts.{text_laws}
@@ -20,20 +20,7 @@ law inside l s ts q utf8 plain well room h = subst (λ (v : State (List ℕ)). B
     same = λ i. record s { site = record s.site { open_nodes = record s.site.open_nodes { stack = q.stack_is i }; foster = q.foster_off i } }
 
     quiet : Quiet texts s.context inside s.site.nodes.made (trees s.site) q.current q.up s.site.items s.control
-    quiet = record {
-      mode_is = sym q.mode_is;
-      mode_fits = q.mode_fits;
-      current_fits = q.current_fits;
-      once = q.once;
-      fresh = q.free;
-      lower = q.lower;
-      entries_lower = q.entries_lower;
-      listed = q.listed;
-      no_p = q.no_p;
-      no_button = q.no_button;
-      no_a = q.no_a;
-      no_form = q.no_form;
-    }
+    quiet = let mode = sym q.mode_is in search rules
 
     deep : suc (length q.up) + spec.depth l ≤ s.site.open_nodes.limit
     deep = let e = ap length q.stack_is in let r = room.open_nodes in omega arith
@@ -48,19 +35,5 @@ law inside l s ts q utf8 plain well room h = subst (λ (v : State (List ℕ)). B
       acted = state s (s.site.nodes.made + size l) (spec.under q.current.node (spec.numbered_forest s.site.nodes.made l) (trees s.site)) (q.current ∷ q.up) built.items' built.control';
       steps = built.steps;
       acts = built.acts;
-      built = record {
-        made = refl;
-        limit = refl;
-        trees_are = refl;
-        open_same = refl;
-        thinned = built.thinned;
-        foster = refl;
-        errors = refl;
-        mode = built.keeps.mode;
-        head = built.keeps.head;
-        form = built.keeps.form;
-        quirks = built.keeps.quirks;
-        context = refl;
-        quirks_list = refl;
-      };
+      built = let keeps = built.keeps in let thinned = built.thinned in search rules;
     }

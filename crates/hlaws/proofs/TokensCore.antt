@@ -118,6 +118,6 @@ module _ (table : Entities) (core : HasCore table) (how : Escaping) (where_is : 
       let others = escaped_as cs scalar_parts.1 clean.1 in
       record {
         codes_are = first.codes_are ++ others.codes_are;
-        spells = spells-append _ first.codes_are _ others.codes_are first.spells others.spells;
+        spells = spells-append first.spells others.spells;
         are = (first.codes_are, others.codes_are, refl, first.way, clean_not_null c clean.0, others.are);
       }

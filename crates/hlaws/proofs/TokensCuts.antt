@@ -5,7 +5,7 @@ use Rattle.htoken.specs.Data as production
 use Rattle.hserialize.specs.declared.escaping.Setting.TheVariants as setting
 use Rattle.hlaws.proofs.TokensCore.{IsCoreName, Way, by_name, by_itself, AreWritten, entry_of, longest-core, begins_alphanumeric}
 use Rattle.htoken.proofs.RawEnds.{other_goes_on}
-use Rattle.hlaws.proofs.TokensText.{tail_of}
+use Rattle.hlaws.proofs.TokensText.{tail_of, both_of}
 
 -- SPLITTING
 
@@ -52,24 +52,28 @@ module _ (table : Entities) (end : ℕ) where
   standing-append here [] ys = refl
   standing-append here (x ∷ xs) ys = standing-append (next here x) xs ys
 
-  pub join : (here : Standing) (front back rest : List Placed) (ts us : List (Token (List ℕ))) (There Then : Standing → Type 0) (a : Cuts table end here front (back ++ rest) ts There)
-      → Cuts table end (standing_after here a.spans) back rest us Then → Cuts table end here (front ++ back) rest (ts ++ us) Then
-  join here front back rest ts us There Then a b = record {
-    spans = a.spans ++ b.spans;
-    text_is = flat_map-append (λ (s : Span). s.text) a.spans b.spans ∙ (λ i. a.text_is i ++ b.text_is i);
-    cut = cut-append here a.spans b.spans rest (subst (λ (z : List Placed). Cut table end here a.spans (z ++ rest)) (sym b.text_is) a.cut) b.cut;
-    tokens_are = ap (map token_taken) (flat_map-append (λ (s : Span). s.tokens) a.spans b.spans) ∙ map-append token_taken (tokens_of a.spans) (tokens_of b.spans) ∙ (λ i. a.tokens_are i ++ b.tokens_are i);
-    in_profile = ap has_refused (flat_map-append (λ (s : Span). s.tokens) a.spans b.spans) ∙ list_any-append is_refused_tag (tokens_of a.spans) (tokens_of b.spans)
-        ∙ ap (λ (x : Bool). x || has_refused (tokens_of b.spans)) a.in_profile ∙ b.in_profile;
-    leads = subst Then (sym (standing-append here a.spans b.spans)) b.leads;
-  }
-
   pub cuts_none : (here : Standing) (rest : List Placed) (There : Standing → Type 0) → There here → Cuts table end here [] rest [] There
   cuts_none here rest There h = record { spans = []; text_is = refl; cut = tt; tokens_are = refl; in_profile = refl; leads = h }
 
-  pub one : (here : Standing) (rest : List Placed) (span : Span) (ts : List (Token (List ℕ))) (There : Standing → Type 0) → IsSpan table end here rest span → map token_taken span.tokens ≡ ts → has_refused span.tokens ≡ false → There (next here span)
+module _ {table : Entities} {end : ℕ} where
+  pub join : {here : Standing} {front back rest : List Placed} {ts us : List (Token (List ℕ))} {There Then : Standing → Type 0} (a : Cuts table end here front (back ++ rest) ts There)
+      → Cuts table end (standing_after here a.spans) back rest us Then → Cuts table end here (front ++ back) rest (ts ++ us) Then
+  join {here} {front} {back} {rest} {ts} {us} {There} {Then} a b = record {
+    spans = a.spans ++ b.spans;
+    text_is = flat_map-append (λ (s : Span). s.text) a.spans b.spans ∙ (λ i. a.text_is i ++ b.text_is i);
+    cut = cut-append table end here a.spans b.spans rest (subst (λ (z : List Placed). Cut table end here a.spans (z ++ rest)) (sym b.text_is) a.cut) b.cut;
+    tokens_are = ap (map token_taken) (flat_map-append (λ (s : Span). s.tokens) a.spans b.spans) ∙ map-append token_taken (tokens_of a.spans) (tokens_of b.spans) ∙ (λ i. a.tokens_are i ++ b.tokens_are i);
+    in_profile = ap has_refused (flat_map-append (λ (s : Span). s.tokens) a.spans b.spans) ∙ list_any-append is_refused_tag (tokens_of a.spans) (tokens_of b.spans)
+        ∙ ap (λ (x : Bool). x || has_refused (tokens_of b.spans)) a.in_profile ∙ b.in_profile;
+    leads = subst Then (sym (standing-append table end here a.spans b.spans)) b.leads;
+  }
+
+  pub cuts_as : {here : Standing} {text other rest : List Placed} {ts : List (Token (List ℕ))} {There : Standing → Type 0} → text ≡ other → Cuts table end here text rest ts There → Cuts table end here other rest ts There
+  cuts_as {here = here} {rest = rest} {ts = ts} {There = There} e c = subst (λ (x : List Placed). Cuts table end here x rest ts There) e c
+
+  pub one : {here : Standing} {rest : List Placed} (span : Span) {ts : List (Token (List ℕ))} {There : Standing → Type 0} → IsSpan table end here rest span → map token_taken span.tokens ≡ ts → has_refused span.tokens ≡ false → There (next here span)
       → Cuts table end here span.text rest ts There
-  one here rest span ts There is tokens allowed leads = record {
+  one span is tokens allowed leads = record {
     spans = span ∷ [];
     text_is = append-nil span.text;
     cut = (is, tt);
@@ -77,9 +81,6 @@ module _ (table : Entities) (end : ℕ) where
     in_profile = ap has_refused (append-nil span.tokens) ∙ allowed;
     leads = leads;
   }
-
-  pub cuts_as : (here : Standing) (text other rest : List Placed) (ts : List (Token (List ℕ))) (There : Standing → Type 0) → text ≡ other → Cuts table end here text rest ts There → Cuts table end here other rest ts There
-  cuts_as here text other rest ts There e c = subst (λ (x : List Placed). Cuts table end here x rest ts There) e c
 
 -- characters lead to the same kind of text and the same name
 pub record Same (here there : Standing) : Type 0 where
@@ -93,15 +94,12 @@ module _ (table : Entities) (is_table : IsTable table) where
       → IsReference table in_value rest (named_piece (amp ∷ name) (entry_of bytes c))
   a_reference in_value amp name rest bytes c is_amp is_name key =
       named amp name (entry_of bytes c) is_amp (begun name bytes is_name key.begins)
-      (ap (longest table) (whole name rest bytes is_name) ∙ longest-core table bytes c (characters rest) is_table key.contains key.ends)
+      (ap (longest table) (both_of (amp ∷ name) rest (λ i. is_amp i ∷ is_name i) refl) ∙ longest-core table bytes c (characters rest) is_table key.contains key.ends)
       (λ i. is_amp i ∷ is_name i) (not_kept in_value (ends_in_semicolon (38 ∷ bytes)) (begins (λ d. d == 61 || is_alphanumeric d) rest) key.ends_whole) refl
     where
       begun : (name : List Placed) (bytes : List ℕ) → characters name ≡ bytes → begins_alphanumeric bytes ≡ true → begins is_alphanumeric name ≡ true
       begun (p ∷ name) (b ∷ bytes) e h = ap is_alphanumeric (first_is p name b bytes e) ∙ h
       begun _ _ e h = absurd cc
-
-      whole : (name rest : List Placed) (bytes : List ℕ) → characters name ≡ bytes → characters (amp ∷ name ++ rest) ≡ (38 ∷ bytes) ++ characters rest
-      whole name rest bytes e = let x : characters (name ++ rest) ≡ bytes ++ characters rest = map-append (λ (p : Placed). p.ch) name rest ∙ ap (λ (y : List ℕ). y ++ characters rest) e in λ i. is_amp i ∷ x i
 
       not_kept : (a b d : Bool) → b ≡ true → (a && not b && d) ≡ false
       not_kept a b d e = grind arith
@@ -120,7 +118,7 @@ module _ (table : Entities) (is_table : IsTable table) where
           let is_amp : amp.ch ≡ 38 = first_is amp nm 38 name e in
           let is_name : characters nm ≡ name = tail_of amp nm 38 name e in
           let piece : Piece = named_piece (amp ∷ nm) (entry_of name c) in
-          one table end here rest (piece_span piece) (character c ∷ []) (Same here) (referred piece (a_reference false amp nm rest name c is_amp is_name key)) refl refl (record { kind_is = refl; name_is = refl })
+          one (piece_span piece) (referred piece (a_reference false amp nm rest name c is_amp is_name key)) refl refl (record { kind_is = refl; name_is = refl })
   char_cuts c ds text rest end here referred itself (by_itself d no_amp no_less) e = go text (e ∙ d)
     where
       go : (text : List Placed) → characters text ≡ c ∷ [] → Cuts table end here text rest (character c ∷ []) (Same here)
@@ -132,18 +130,14 @@ module _ (table : Entities) (is_table : IsTable table) where
       → Cuts table end here text rest (character c ∷ []) (Same here)
   data_span c ds text rest end here is_data =
       char_cuts c ds text rest end here (λ piece r. in_data table end here rest (piece_span piece) is_data (production.reference piece r refl))
-      (λ p is no_amp no_less. one table end here rest (character_span p) (character c ∷ []) (Same here)
-      (in_data table end here rest (character_span p) is_data (production.character p (ap (λ (x : ℕ). x == 60 || x == 38) is ∙ or_from _ _ no_less no_amp) refl))
-      (ap (λ (x : ℕ). character x ∷ []) is) refl (record { kind_is = refl; name_is = refl }))
+      (λ p is no_amp no_less. one (character_span p) (in_data table end here rest (character_span p) is_data (production.character p (ap (λ (x : ℕ). x == 60 || x == 38) is ∙ or_from _ _ no_less no_amp) refl)) (ap (λ (x : ℕ). character x ∷ []) is) refl (record { kind_is = refl; name_is = refl }))
 
   rcdata_span : (c : ℕ) (ds : List ℕ) (text rest : List Placed) (end : ℕ) (here : Standing) → here.kind ≡ kind.Rcdata → (c == 0) ≡ false → Way table setting.Text c ds → characters text ≡ ds
       → Cuts table end here text rest (character c ∷ []) (Same here)
   rcdata_span c ds text rest end here is_rcdata no_null =
       char_cuts c ds text rest end here (λ piece r. in_raw table end here rest (piece_span piece) (ap is_raw is_rcdata) (raw_reference piece (rw is_rcdata refl) r refl))
-      (λ p is no_amp no_less. one table end here rest (piece_span (plain_piece p)) (character c ∷ []) (Same here)
-      (in_raw table end here rest (piece_span (plain_piece p)) (ap is_raw is_rcdata)
-      (raw_character p (other_goes_on here p rest (ap (λ (x : ℕ). x == 60) is ∙ no_less)) (and_right _ _ (ap (λ (x : ℕ). x == 38) is ∙ no_amp)) refl))
-      (ap (λ (b : Bool). character (cond b 0xFFFD p.ch) ∷ []) (ap (λ (x : ℕ). x == 0) is ∙ no_null) ∙ ap (λ (x : ℕ). character x ∷ []) is) refl (record { kind_is = refl; name_is = refl }))
+      (λ p is no_amp no_less. one (piece_span (plain_piece p)) (in_raw table end here rest (piece_span (plain_piece p)) (ap is_raw is_rcdata)
+      (raw_character p (other_goes_on here p rest (ap (λ (x : ℕ). x == 60) is ∙ no_less)) (and_right _ _ (ap (λ (x : ℕ). x == 38) is ∙ no_amp)) refl)) (ap (λ (b : Bool). character (cond b 0xFFFD p.ch) ∷ []) (ap (λ (x : ℕ). x == 0) is ∙ no_null) ∙ ap (λ (x : ℕ). character x ∷ []) is) refl (record { kind_is = refl; name_is = refl }))
 
   same_then : (here there last : Standing) → Same here there → Same there last → Same here last
   same_then here there last a b = record { kind_is = b.kind_is ∙ a.kind_is; name_is = b.name_is ∙ a.name_is }
@@ -151,15 +145,14 @@ module _ (table : Entities) (is_table : IsTable table) where
   -- a text
   pub text_cuts : (cs es : List ℕ) (text rest : List Placed) (end : ℕ) (here : Standing) → has_references here.kind ≡ true → AreWritten table setting.Text cs es → characters text ≡ es
       → Cuts table end here text rest (map (λ c. character c) cs) (Same here)
-  text_cuts [] es text rest end here k w e = cuts_as table end here [] text rest [] (Same here) (sym (no_characters text (e ∙ w))) (cuts_none table end here rest (Same here) (record { kind_is = refl; name_is = refl }))
+  text_cuts [] es text rest end here k w e = cuts_as (sym (no_characters text (e ∙ w))) (cuts_none table end here rest (Same here) (record { kind_is = refl; name_is = refl }))
   text_cuts (c ∷ cs) es text rest end here k (ds, more, is, way, no_null, others) e =
       let s = split text ds more (e ∙ is) in
       let first : Cuts table end here s.front (s.back ++ rest) (character c ∷ []) (Same here) = span_of here.kind refl k s.front (s.back ++ rest) s.fronts in
       let there : Standing = standing_after here first.spans in
       let then : Cuts table end there s.back rest (map (λ c. character c) cs) (Same there) = text_cuts cs more s.back rest end there (ap has_references first.leads.kind_is ∙ k) others s.backs in
-      let both : Cuts table end here (s.front ++ s.back) rest (character c ∷ map (λ c. character c) cs) (Same there) = join table end here s.front s.back rest (character c ∷ []) (map (λ c. character c) cs) (Same here) (Same there) first then in
-      cuts_as table end here (s.front ++ s.back) text rest (character c ∷ map (λ c. character c) cs) (Same here) (sym s.is)
-      (record { spans = both.spans; text_is = both.text_is; cut = both.cut; tokens_are = both.tokens_are; in_profile = both.in_profile; leads = same_then here there _ first.leads both.leads })
+      let both : Cuts table end here (s.front ++ s.back) rest (character c ∷ map (λ c. character c) cs) (Same there) = join first then in
+      cuts_as (sym s.is) (record { spans = both.spans; text_is = both.text_is; cut = both.cut; tokens_are = both.tokens_are; in_profile = both.in_profile; leads = same_then here there _ first.leads both.leads })
     where
       span_of : (kind_here : RawKind) → here.kind ≡ kind_here → has_references kind_here ≡ true → (text rest : List Placed) → characters text ≡ ds → Cuts table end here text rest (character c ∷ []) (Same here)
       span_of kind.None is h text rest e = data_span c ds text rest end here is way e

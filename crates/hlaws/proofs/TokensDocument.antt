@@ -55,20 +55,16 @@ doctype_cuts table end_at here text rest is_data e =
                 runs = record {
                   passes_none = all-characters (λ x. not (is_space x || is_greater x)) name
                       ∙ ap (list_all (λ x. not (is_space x || is_greater x))) named;
-                  stops_after =
-                      ap (λ (x : ℕ). is_space x || is_greater x) (first_is c lose 62 [] closes);
+                  stops_after = ap (λ (x : ℕ). is_space x || is_greater x) (first_is c lose 62 [] closes);
                 };
                 follows = record { space = []; after = close; text_is = refl; spaces = refl; then = production.name_ends (production.closed closes refl refl) };
                 errors_are = sym (append-nil (null_errors name));
               }) refl;
         } in
         let span : Span = data_span.doctype_span end_at opening ((s ∷ []) ++ (name ++ close)) found (null_errors name) in
-        cuts_as table end_at here span.text text rest (html_doctype ∷ []) InData is
-        (one table end_at here rest span (html_doctype ∷ []) InData
-        (in_data table end_at here rest span is_data
+        cuts_as is (one span (in_data table end_at here rest span is_data
         (data_span.doctype opening ((s ∷ []) ++ (name ++ close)) found (null_errors name) (lowers opening ∙ ap (map to_ascii_lowercase) opens) is_doctype
-        refl))
-        (ap (λ (x : List ℕ). doctype (Some x) None None false ∷ []) html) refl refl)
+        refl)) (ap (λ (x : List ℕ). doctype (Some x) None None false ∷ []) html) refl refl)
     of_parts _ _ _ _ opens spaced named closes is = absurd cc
 
 -- PARTS OF A DOCUMENT
@@ -118,12 +114,10 @@ module _ (table : Entities) (is_table : IsTable table) (core : HasCore table) (h
       let named : name ≡ codes "html" = (bytes_eq-Decides name (codes "html")).0 (grind arith) in
       let others : ReadsList rest = law rest u.1 (grind arith) in
       subst (λ (x : List ℕ). ReadsList (tree m (forest.doctype x public_id system_id) kids rest)) (sym named)
-      (reads-append table (codes "<!DOCTYPE html>") (written_among how false rest) (html_doctype ∷ []) (plain_tokens texts rest)
-      (record {
+      (reads-append (record {
         codes_are = codes "<!DOCTYPE html>";
         spells = spells_ascii (codes "<!DOCTYPE html>") refl;
-        cuts =
-            λ end_at here text more k e. doctype_cuts table end_at here text more k e;
+        cuts = λ end_at here text more k e. doctype_cuts table end_at here text more k e;
       }) others)
   doctype_read next law l u h = law l u h
 
@@ -143,11 +137,9 @@ module _ (table : Entities) (is_table : IsTable table) (core : HasCore table) (h
       let f = four _ _ _ _ h in
       whole.element_then table is_table core how m inside_head name attrs kids rest (document_name name (metadata_name (tag_named name) f.0)) u.1 f.1 u.2
       (λ raw. f.2) (whole.list_reads table is_table core how (inside_element (tag_named name) inside_head) kids u.2 f.2) (metadata_read rest u.3 f.3)
-  metadata_read (tree m (forest.comment t) kids rest) u h = let b =
-      and_parts _ _ h in leaf_read allowed.WhiteSpace m (forest.comment t) kids rest u b.0 (metadata_read rest u.2 b.1)
-  metadata_read (tree m (forest.text t) kids rest) u h = let b =
-      and_parts _ _ h in leaf_read allowed.WhiteSpace m (forest.text t) kids rest u b.0 (metadata_read rest u.2 b.1)
-  metadata_read _ u h = absurd (false≢true h)
+  metadata_read (tree m w kids rest) u h =
+      let b = and_parts (is_leaf allowed.WhiteSpace w kids rest) (are_metadata rest) h in
+      leaf_read allowed.WhiteSpace m w kids rest u b.0 (metadata_read rest (texts_after m w kids rest u) b.1)
 
   document_read : AreAllRead is_plain_document
   document_read = leaves_read allowed.None _ (doctype_read _ (leaves_read allowed.None _ (named (codes "html") are_in_html (comments_then ends_document) refl refl

@@ -1,5 +1,5 @@
 -- Tags and comments, whole.
-use Rattle.hlaws.proofs.Names.{◌≡◌, ℕ, Bool, true, false, not, ◌&&◌, ◌||◌, nat_eq, Some, List, [], ◌∷◌, ◌++◌, map, refl, sym, ◌∙◌, ap, arith, append-nil, append_assoc, and_right, or_from, or_parts, nat_tests, map-append, codes, encode_utf8_all, list_all, all-characters, all_weaker, first_is, Placed, characters, place, begins, spells, all, is_letter, without_null, name_bytes, raw_kind, is_refused, tag_named, Entities, IsTable, Attribute, Span, Standing, next, parts_text, attributes_after, ends_name, has_refused, start, end, comment, token_taken, begins_with, has_part, stops, before, Avoids, text_bytes, tag_errors, end_tag_errors, comment_span, in_data}
+use Rattle.hlaws.proofs.Names.{◌≡◌, ℕ, Bool, true, false, not, ◌&&◌, ◌||◌, nat_eq, Some, List, [], ◌∷◌, ◌++◌, map, refl, sym, ◌∙◌, ap, arith, append-nil, append_assoc, and_right, or_from, or_parts, nat_tests, codes, encode_utf8_all, list_all, all-characters, all_weaker, first_is, Placed, characters, place, begins, spells, all, is_letter, without_null, name_bytes, raw_kind, is_refused, tag_named, Entities, IsTable, Attribute, Span, Standing, next, parts_text, attributes_after, ends_name, has_refused, start, end, comment, token_taken, begins_with, has_part, stops, before, Avoids, text_bytes, tag_errors, end_tag_errors, comment_span, in_data}
 use Rattle.names.specs.declared.raw.RawKind.TheVariants as kind
 use Rattle.hmarkup.specs.Comment.{IsComment, closed, closes_comment, closes_at_once}
 use Rattle.hmarkup.specs.Comment as text_of_comment
@@ -7,7 +7,7 @@ use Rattle.hmarkup.proofs.Marks.{before-avoids, before-here}
 use Rattle.htoken.specs.Token.{Start, End}
 use Rattle.htoken.specs.Tag.{IsTag, start_tag, end_tag}
 use Rattle.htoken.specs.Data as production
-use Rattle.hlaws.proofs.TokensText.{is_clean_char, clean_not_null, tail_of}
+use Rattle.hlaws.proofs.TokensText.{is_clean_char, clean_not_null, tail_of, both_of}
 use Rattle.hlaws.proofs.TokensCuts.{split, Cuts, one, cuts_as}
 use Rattle.hlaws.proofs.TokensTags.{is_good, good_no_end, name_bytes_are, begins_letter, AreAttributes, AreNew, attribute_parts, attribute_codes}
 
@@ -62,11 +62,7 @@ module _ (table : Entities) (is_table : IsTable table) (end_at : ℕ) where
         runs = record { passes_none = runs_name q.back name q.backs is_name.good; stops_after = ap (λ (x : List Placed). stops ends_name (x ++ (s.back ++ rest))) p.text_is ∙ stops_after_name table attrs ds r.back s.back rest are r.backs s.backs };
         in_parts = p.are;
       }) s.backs refl in
-      cuts_as table end_at here span.text text rest (start name attrs false ∷ []) (λ there. there ≡ after_start name)
-      (ap (λ (x : List Placed). ((q.front ++ q.back) ++ x) ++ s.back) p.text_is ∙ sym (s.is ∙ ap (λ (x : List Placed). x ++ s.back) (r.is ∙ ap (λ (x : List Placed). x ++ r.back) q.is)))
-      (one table end_at here rest span (start name attrs false ∷ []) (λ there. there ≡ after_start name)
-      (in_data table end_at here rest span is_data (production.tag is_tag))
-      (λ i. start (n i) (p.attributes_are i) false ∷ []) (ap (λ (x : List ℕ). is_refused (tag_named x) || false) n ∙ or_from _ _ is_name.allowed refl) (ap after_start n))
+      cuts_as (ap (λ (x : List Placed). ((q.front ++ q.back) ++ x) ++ s.back) p.text_is ∙ sym (s.is ∙ ap (λ (x : List Placed). x ++ s.back) (r.is ∙ ap (λ (x : List Placed). x ++ r.back) q.is))) (one span (in_data table end_at here rest span is_data (production.tag is_tag)) (λ i. start (n i) (p.attributes_are i) false ∷ []) (ap (λ (x : List ℕ). is_refused (tag_named x) || false) n ∙ or_from _ _ is_name.allowed refl) (ap after_start n))
 
 module _ (table : Entities) (end_at : ℕ) where
   -- an end tag, of data or of raw text
@@ -102,9 +98,7 @@ module _ (table : Entities) (end_at : ℕ) where
       → Cuts table end_at here text rest (end name ∷ []) (λ there. there.kind ≡ kind.None)
   end_tag_cuts name text rest here is_data is_name e =
       let t = an_end_tag name text rest is_name e in
-      cuts_as table end_at here t.span.text text rest (end name ∷ []) (λ there. there.kind ≡ kind.None) t.text_is
-      (one table end_at here rest t.span (end name ∷ []) (λ there. there.kind ≡ kind.None)
-      (in_data table end_at here rest t.span is_data (production.tag t.is_tag)) t.tokens_are t.in_profile (ap (λ (x : Standing). x.kind) (t.leads here)))
+      cuts_as t.text_is (one t.span (in_data table end_at here rest t.span is_data (production.tag t.is_tag)) t.tokens_are t.in_profile (ap (λ (x : Standing). x.kind) (t.leads here)))
 
 -- COMMENTS
 
@@ -124,11 +118,9 @@ avoids_close : (inner close : List Placed) (cs : List ℕ) → characters inner 
 avoids_close [] close cs e k h g = tt
 avoids_close (p ∷ ps) close [] e k h g = absurd cc
 avoids_close (p ∷ ps) close (c ∷ cs) e k h g =
-    let same : p.ch ≡ c = first_is p ps c cs e in
-    let others : characters ps ≡ cs = tail_of p ps c cs e in
-    let whole : characters (p ∷ ps ++ close) ≡ c ∷ cs ++ codes "-->" = let x : characters (ps ++ close) ≡ cs ++ codes "-->" = map-append (λ (p : Placed). p.ch) ps close ∙ (λ i. others i ++ k i) in λ i. same i ∷ x i in (
+    let whole : characters (p ∷ ps ++ close) ≡ c ∷ cs ++ codes "-->" = both_of (p ∷ ps) close e k in (
       or_from _ _ (spells_is (codes "-->") (p ∷ ps ++ close) ∙ ap (begins_with (codes "-->")) whole ∙ no_close c cs h) (spells_is (codes "--!>") (p ∷ ps ++ close) ∙ ap (begins_with (codes "--!>")) whole ∙ no_bang_close c cs g),
-      avoids_close ps close cs others k (or_parts _ _ h).1 (or_parts _ _ g).1,
+      avoids_close ps close cs (tail_of p ps c cs e) k (or_parts _ _ h).1 (or_parts _ _ g).1,
     )
 
 -- a text that closes a comment at once
@@ -161,7 +153,7 @@ comment_cuts table end_at cs t text rest here is_data is e =
     let s = split text (codes "<!--" ++ cs) (codes "-->") e in
     let q = split s.front (codes "<!--") cs s.fronts in
     let body : List Placed = q.back ++ s.back in
-    let whole : characters body ≡ cs ++ codes "-->" = map-append (λ (p : Placed). p.ch) q.back s.back ∙ (λ i. q.backs i ++ s.backs i) in
+    let whole : characters body ≡ cs ++ codes "-->" = both_of q.back s.back q.backs s.backs in
     let closes : closes_comment s.back ≡ true = ap (λ (b : Bool). b || spells (codes "--!>") s.back) (spells_is (codes "-->") s.back ∙ ap (begins_with (codes "-->")) s.backs) in
     let inner_is : q.back ≡ before closes_comment body =
     sym (before-avoids closes_comment q.back s.back (avoids_close q.back s.back cs q.backs s.backs is.closes_not is.bang_not) ∙ ap (λ (x : List Placed). q.back ++ x) (before-here closes_comment s.back closes) ∙ append-nil q.back) in
@@ -170,8 +162,4 @@ comment_cuts table end_at cs t text rest here is_data is e =
     let contents_are : text_bytes q.back ≡ t = ap encode_utf8_all (bytes_of_text q.back cs q.backs is.clean) ∙ is.bytes_are in
     let is_comment : IsComment end_at rest body (text_bytes q.back) (text_of_comment.comment_errors_after [] body) = closed q.back s.back refl not_at_once inner_is s.backs refl refl in
     let span : Span = comment_span end_at q.front body (text_bytes q.back) (text_of_comment.comment_errors_after [] body) in
-    cuts_as table end_at here span.text text rest (comment t ∷ []) (λ there. there.kind ≡ kind.None)
-    (sym (s.is ∙ ap (λ (x : List Placed). x ++ s.back) q.is ∙ append_assoc q.front q.back s.back))
-    (one table end_at here rest span (comment t ∷ []) (λ there. there.kind ≡ kind.None)
-    (in_data table end_at here rest span is_data (production.comment q.front body (text_bytes q.back) (text_of_comment.comment_errors_after [] body) q.fronts is_comment refl))
-    (ap (λ (x : List ℕ). comment x ∷ []) contents_are) refl refl)
+    cuts_as (sym (s.is ∙ ap (λ (x : List Placed). x ++ s.back) q.is ∙ append_assoc q.front q.back s.back)) (one span (in_data table end_at here rest span is_data (production.comment q.front body (text_bytes q.back) (text_of_comment.comment_errors_after [] body) q.fronts is_comment refl)) (ap (λ (x : List ℕ). comment x ∷ []) contents_are) refl refl)

@@ -1,5 +1,5 @@
 -- Plain lists are read as their own tokens.
-use Rattle.hlaws.proofs.Names.{and_right, has_references, all_weaker, arith, ◌≡◌, ℕ, Bool, true, false, not, ◌&&◌, ◌||◌, List, [], ◌∷◌, ◌++◌, map, refl, sym, ◌∙◌, ap, subst, true≢false, and_parts, and_from, or_from, or_parts, false_from_ne_true, not-true, bytes_eq-Decides, encodes-chars, scalars-chars, codes, chars, IsUtf8, flat_map, list_all, list_any, Placed, RawKind, Tag, characters, raw_kind, is_refused, is_void, tag_named, tag_text, tags, Entities, IsTable, HasCore, Attribute, Standing, standing_after, is_known, Token, start, end, comment, character, Content, Role, Escaping, escaped, row, takes_role, are_plain_attributes, is_plain_comment, has_no_null_or_return, is_plain_name_byte, start_tag_text, end_tag_text, bytes_eq, is_ascii_lowercase, or_second, is_plain_name, is_metadata, attribute_text, AreUtf8}
+use Rattle.hlaws.proofs.Names.{and_right, has_references, all_weaker, arith, ◌≡◌, ℕ, Bool, true, false, not, ◌&&◌, ◌||◌, List, [], ◌∷◌, ◌++◌, map, refl, sym, ◌∙◌, ap, subst, true≢false, and_parts, or_from, or_parts, false_from_ne_true, not-true, bytes_eq-Decides, encodes-chars, scalars-chars, codes, chars, IsUtf8, flat_map, list_all, list_any, Placed, RawKind, Tag, characters, raw_kind, is_refused, is_void, tag_named, tag_text, tags, Entities, IsTable, HasCore, Attribute, Standing, standing_after, is_known, Token, start, end, comment, character, Content, Role, Escaping, escaped, row, takes_role, are_plain_attributes, is_plain_comment, has_no_null_or_return, is_plain_name_byte, start_tag_text, end_tag_text, bytes_eq, or_second, is_plain_name, is_metadata, attribute_text, AreUtf8}
 use Rattle.names.specs.declared.raw.RawKind.TheVariants as kind
 use Rattle.names.specs.declared.tag.Tag.TheVariants as tag
 use Rattle.hserialize.specs.declared.content.Content.TheVariants as content
@@ -9,7 +9,7 @@ use Rattle.hlaws.proofs.NamesAsTexts.{named_back}
 use Rattle.hlaws.proofs.Content.{four}
 use Rattle.hlaws.proofs.TokensText.{Spells, spells-nil, spells-append, spells_ascii, spells_text, clean_text, no_part, no_front}
 use Rattle.hlaws.proofs.TokensCore.{escaped_as}
-use Rattle.hlaws.proofs.TokensCuts.{split, no_characters, Cuts, Same, join, cuts_none, cuts_as, text_cuts}
+use Rattle.hlaws.proofs.TokensCuts.{split, no_characters, Cuts, join, cuts_none, cuts_as, text_cuts}
 use Rattle.hlaws.proofs.TokensTags.{is_good, name_byte_good, goods_ascii, begins_letter, is_some_name, AreAttributes, AreNew, attribute_codes}
 use Rattle.hlaws.proofs.TokensMarks.{IsElementName, after_start, start_tag_cuts, end_tag_cuts, comment_cuts}
 
@@ -89,35 +89,39 @@ document_name name h = fine_name name (and_right (is_nowhere (row (tag_named nam
 abbrev pub InData : Standing → Type 0
 InData there = there.kind ≡ kind.None
 
-pub record Reads (table : Entities) (bytes : List ℕ) (tokens : List (Token (List ℕ))) : Type 0 where
+-- These bytes are read as these tokens where this is true of how the tokenizer stands, and then that is.
+pub record Takes (table : Entities) (Here There : Standing → Type 0) (bytes : List ℕ) (tokens : List (Token (List ℕ))) : Type 0 where
   pub codes_are : List ℕ
   pub spells : Spells bytes codes_are
-  pub cuts : (end_at : ℕ) (here : Standing) (text rest : List Placed) → here.kind ≡ kind.None → characters text ≡ codes_are → Cuts table end_at here text rest tokens InData
+  pub cuts : (end_at : ℕ) (here : Standing) (text rest : List Placed) → Here here → characters text ≡ codes_are → Cuts table end_at here text rest tokens There
 
-pub led : (table : Entities) (end_at : ℕ) (here : Standing) (text rest : List Placed) (ts : List (Token (List ℕ))) (There Then : Standing → Type 0) → ((there : Standing) → There there → Then there)
-    → Cuts table end_at here text rest ts There → Cuts table end_at here text rest ts Then
-led table end_at here text rest ts There Then f c = record { spans = c.spans; text_is = c.text_is; cut = c.cut; tokens_are = c.tokens_are; in_profile = c.in_profile; leads = f (standing_after here c.spans) c.leads }
+abbrev pub Reads : Entities → List ℕ → List (Token (List ℕ)) → Type 0
+Reads table bytes tokens = Takes table InData InData bytes tokens
+
+pub led : {table : Entities} {end_at : ℕ} {here : Standing} {text rest : List Placed} {ts : List (Token (List ℕ))} {There Then : Standing → Type 0} → Cuts table end_at here text rest ts There
+    → ((there : Standing) → There there → Then there) → Cuts table end_at here text rest ts Then
+led {here = here} c f = record { spans = c.spans; text_is = c.text_is; cut = c.cut; tokens_are = c.tokens_are; in_profile = c.in_profile; leads = f (standing_after here c.spans) c.leads }
 
 -- the same tokens, given in other words
-pub told : (table : Entities) (bytes : List ℕ) (ts us : List (Token (List ℕ))) → ts ≡ us → Reads table bytes ts → Reads table bytes us
-told table bytes ts us e r = subst (λ (x : List (Token (List ℕ))). Reads table bytes x) e r
+pub told : {table : Entities} {bytes : List ℕ} {ts us : List (Token (List ℕ))} → ts ≡ us → Reads table bytes ts → Reads table bytes us
+told {table} {bytes} e r = subst (λ (x : List (Token (List ℕ))). Reads table bytes x) e r
 
 pub reads-nil : (table : Entities) → Reads table [] []
 reads-nil table = record {
   codes_are = [];
   spells = spells-nil;
-  cuts = λ end_at here text rest k e. cuts_as table end_at here [] text rest [] InData (sym (no_characters text e)) (cuts_none table end_at here rest InData k);
+  cuts = λ end_at here text rest k e. cuts_as (sym (no_characters text e)) (cuts_none table end_at here rest InData k);
 }
 
-pub reads-append : (table : Entities) (bs cs : List ℕ) (ts us : List (Token (List ℕ))) → Reads table bs ts → Reads table cs us → Reads table (bs ++ cs) (ts ++ us)
-reads-append table bs cs ts us a b = record {
+pub reads-append : {table : Entities} {Here Mid There : Standing → Type 0} {bs cs : List ℕ} {ts us : List (Token (List ℕ))} → Takes table Here Mid bs ts → Takes table Mid There cs us → Takes table Here There (bs ++ cs) (ts ++ us)
+reads-append a b = record {
   codes_are = a.codes_are ++ b.codes_are;
-  spells = spells-append bs a.codes_are cs b.codes_are a.spells b.spells;
+  spells = spells-append a.spells b.spells;
   cuts = λ end_at here text rest k e.
       let s = split text a.codes_are b.codes_are e in
       let first = a.cuts end_at here s.front (s.back ++ rest) k s.fronts in
       let then = b.cuts end_at (standing_after here first.spans) s.back rest first.leads s.backs in
-      cuts_as table end_at here (s.front ++ s.back) text rest (ts ++ us) InData (sym s.is) (join table end_at here s.front s.back rest ts us InData InData first then);
+      cuts_as (sym s.is) (join first then);
 }
 
 -- NAMES AND ATTRIBUTES
@@ -125,8 +129,7 @@ reads-append table bs cs ts us a b = record {
 good_attribute : (name : List ℕ) → is_plain_name name ≡ true → (list_all is_good name ≡ true) × (is_some_name name ≡ true)
 good_attribute [] h = absurd cc
 good_attribute (b ∷ bs) h =
-    let both = and_parts (is_ascii_lowercase b) (list_all is_plain_name_byte bs) h in
-    (all_weaker is_plain_name_byte is_good name_byte_good (b ∷ bs) (and_from _ _ (rw both.0 refl) both.1), refl)
+    (all_weaker is_plain_name_byte is_good name_byte_good (b ∷ bs) (grind arith), refl)
 
 eq_other : (a b : List ℕ) → bytes_eq a b ≡ false → bytes_eq b a ≡ false
 eq_other a b h = false_from_ne_true _ (λ e. let x : a ≡ b = sym ((bytes_eq-Decides b a).0 e) in true≢false (sym ((bytes_eq-Decides a b).1 x) ∙ h))
@@ -140,7 +143,7 @@ new_more a before names (b ∷ others) new h =
   where
     known_more : (before : List (List ℕ)) → is_known (before ++ names) b.0 ≡ false → bytes_eq b.0 a ≡ false → is_known (before ++ (a ∷ names)) b.0 ≡ false
     known_more [] k e = or_from _ _ e k
-    known_more (x ∷ before) k e = let parts = or_parts (bytes_eq b.0 x) _ k in or_from _ _ parts.0 (known_more before parts.1 e)
+    known_more (x ∷ before) k e = grind (arith, known_more before)
 
 are_new : (attrs : List (Attribute (List ℕ))) → are_plain_attributes attrs ≡ true → AreNew [] attrs
 are_new [] h = tt
@@ -162,22 +165,17 @@ module _ (table : Entities) (is_table : IsTable table) (core : HasCore table) (h
       let more = attributes_read others u.2 (grind arith) in
       let name_mapped : Spells a.0 a.0 = spells_ascii a.0 (goods_ascii a.0 good.0) in
       let one : Spells (attribute_text how a) (attribute_codes a.0 value.codes_are) =
-      spells-append (((codes " " ++ a.0) ++ codes "=\"") ++ escaped how setting.Value a.1) (((codes " " ++ a.0) ++ codes "=\"") ++ value.codes_are) (codes "\"") (codes "\"")
-      (spells-append ((codes " " ++ a.0) ++ codes "=\"") ((codes " " ++ a.0) ++ codes "=\"") (escaped how setting.Value a.1) value.codes_are
-      (spells-append (codes " " ++ a.0) (codes " " ++ a.0) (codes "=\"") (codes "=\"") (spells-append (codes " ") (codes " ") a.0 a.0 (spells_ascii (codes " ") refl) name_mapped) (spells_ascii (codes "=\"") refl))
-      value.spells) (spells_ascii (codes "\"") refl) in
+      spells-append (spells-append (spells-append (spells-append (spells_ascii (codes " ") refl) name_mapped) (spells_ascii (codes "=\"") refl)) value.spells) (spells_ascii (codes "\"") refl) in
       record {
         codes_are = attribute_codes a.0 value.codes_are ++ more.codes_are;
-        spells = spells-append (attribute_text how a) (attribute_codes a.0 value.codes_are) (flat_map (attribute_text how) others) more.codes_are one more.spells;
+        spells = spells-append one more.spells;
         are = (value.codes_are, more.codes_are, refl, record { good = good.0; named = good.1; characters_are = chars a.1; value_is = encodes-chars a.1 u.1; value = value.are }, more.are);
       }
 
   -- TAGS
 
-  pub record StartTag (name : List ℕ) (attrs : List (Attribute (List ℕ))) : Type 0 where
-    pub codes_are : List ℕ
-    pub spells : Spells (start_tag_text how name attrs) codes_are
-    pub cuts : (end_at : ℕ) (here : Standing) (text rest : List Placed) → here.kind ≡ kind.None → characters text ≡ codes_are → Cuts table end_at here text rest (start name attrs false ∷ []) (λ there. there ≡ after_start name)
+  abbrev pub StartTag : List ℕ → List (Attribute (List ℕ)) → Type 0
+  StartTag name attrs = Takes table InData (λ there. there ≡ after_start name) (start_tag_text how name attrs) (start name attrs false ∷ [])
 
   pub a_start_tag : (name : List ℕ) (attrs : List (Attribute (List ℕ))) → IsElementName name → AreUtf8 attrs → are_plain_attributes attrs ≡ true → StartTag name attrs
   a_start_tag name attrs is_name u h =
@@ -185,15 +183,13 @@ module _ (table : Entities) (is_table : IsTable table) (core : HasCore table) (h
       let name_mapped : Spells name name = spells_ascii name (goods_ascii name is_name.good) in
       record {
         codes_are = ((codes "<" ++ name) ++ read.codes_are) ++ codes ">";
-        spells = spells-append ((codes "<" ++ name) ++ flat_map (attribute_text how) attrs) ((codes "<" ++ name) ++ read.codes_are) (codes ">") (codes ">")
-            (spells-append (codes "<" ++ name) (codes "<" ++ name) (flat_map (attribute_text how) attrs) read.codes_are (spells-append (codes "<") (codes "<") name name (spells_ascii (codes "<") refl) name_mapped) read.spells)
-            (spells_ascii (codes ">") refl);
+        spells = spells-append (spells-append (spells-append (spells_ascii (codes "<") refl) name_mapped) read.spells) (spells_ascii (codes ">") refl);
         cuts = λ end_at here text rest k e. start_tag_cuts table is_table end_at name attrs read.codes_are text rest here k is_name read.are (are_new attrs h) e;
       }
 
   pub end_mapped : (name : List ℕ) → IsElementName name → Spells (end_tag_text name) ((codes "</" ++ name) ++ codes ">")
   end_mapped name is_name =
-      spells-append (codes "</" ++ name) (codes "</" ++ name) (codes ">") (codes ">") (spells-append (codes "</") (codes "</") name name (spells_ascii (codes "</") refl) (spells_ascii name (goods_ascii name is_name.good))) (spells_ascii (codes ">") refl)
+      spells-append (spells-append (spells_ascii (codes "</") refl) (spells_ascii name (goods_ascii name is_name.good))) (spells_ascii (codes ">") refl)
 
   pub end_tag_reads : (name : List ℕ) → IsElementName name → Reads table (end_tag_text name) (end name ∷ [])
   end_tag_reads name is_name = record {
@@ -208,7 +204,7 @@ module _ (table : Entities) (is_table : IsTable table) (core : HasCore table) (h
     codes_are = s.codes_are;
     spells = s.spells;
     cuts = λ end_at here text rest k e.
-        led table end_at here text rest (start name attrs false ∷ []) (λ there. there ≡ after_start name) InData (λ there is. ap (λ (x : Standing). x.kind) is ∙ is_none) (s.cuts end_at here text rest k e);
+        led (s.cuts end_at here text rest k e) (λ there is. ap (λ (x : Standing). x.kind) is ∙ is_none);
   }
 
   -- TEXTS AND COMMENTS
@@ -219,7 +215,7 @@ module _ (table : Entities) (is_table : IsTable table) (core : HasCore table) (h
       record {
         codes_are = w.codes_are;
         spells = w.spells;
-        cuts = λ end_at here text rest k e. led table end_at here text rest (map (λ c. character c) (chars t)) (Same here) InData (λ there same. same.kind_is ∙ k) (text_cuts table is_table (chars t) w.codes_are text rest end_at here (ap has_references k) w.are e);
+        cuts = λ end_at here text rest k e. led (text_cuts table is_table (chars t) w.codes_are text rest end_at here (ap has_references k) w.are e) (λ there same. same.kind_is ∙ k);
       }
 
   pub comment_reads : (t : List ℕ) → IsUtf8 t → is_plain_comment t ≡ true → Reads table ((codes "<!--" ++ t) ++ codes "-->") (comment t ∷ [])
@@ -228,7 +224,7 @@ module _ (table : Entities) (is_table : IsTable table) (core : HasCore table) (h
       let d = and_parts (has_no_null_or_return t) _ f.0 in
       record {
         codes_are = (codes "<!--" ++ chars t) ++ codes "-->";
-        spells = spells-append (codes "<!--" ++ t) (codes "<!--" ++ chars t) (codes "-->") (codes "-->") (spells-append (codes "<!--") (codes "<!--") t (chars t) (spells_ascii (codes "<!--") refl) (spells_text t u d.0)) (spells_ascii (codes "-->") refl);
+        spells = spells-append (spells-append (spells_ascii (codes "<!--") refl) (spells_text t u d.0)) (spells_ascii (codes "-->") refl);
         cuts = λ end_at here text rest k e. comment_cuts table end_at (chars t) t text rest here k (record {
           bytes_are = encodes-chars t u;
           clean = clean_text t u d.0;

@@ -1,9 +1,9 @@
 -- Raw texts, and the end tags that end them.
-use Rattle.hlaws.proofs.Names.{nat_tests, ◌≡◌, ℕ, suc, ◌+◌, Bool, true, false, not, cond, ◌&&◌, Some, None, List, [], ◌∷◌, ◌++◌, map, length, drop, refl, sym, ◌∙◌, ap, subst, arith, append_assoc, true≢false, and_parts, and_from, and_right, or_parts, or_right, false_from_ne_true, map-append, ◌==◌, codes, to_ascii_lowercase, list_all, first_is, Placed, characters, begins, spells, without_null, Entities, piece_span, Standing, raw_character, has_references, is_raw_end, is_end_tag_of, may_end, ends_name, ends_attribute_name, plain_piece, end, character, begins_with, has_part, Option, spells_in_any_case, raw_end, level, is_raw, in_raw}
+use Rattle.hlaws.proofs.Names.{nat_tests, ◌≡◌, ℕ, suc, ◌+◌, Bool, true, false, cond, Some, None, List, [], ◌∷◌, ◌++◌, map, length, drop, refl, sym, ◌∙◌, ap, subst, arith, append_assoc, true≢false, and_parts, and_from, and_right, or_parts, or_right, false_from_ne_true, ◌==◌, codes, to_ascii_lowercase, list_all, first_is, Placed, characters, begins, spells, Entities, piece_span, Standing, raw_character, has_references, is_raw_end, is_end_tag_of, may_end, ends_name, plain_piece, end, character, begins_with, has_part, Option, spells_in_any_case, raw_end, level, is_raw, in_raw}
 use Rattle.names.specs.declared.raw.RawKind.TheVariants as kind
 use Rattle.hmarkup.specs.CommentWalk.{backwards}
 use Rattle.htoken.proofs.InRaw.{after_characters}
-use Rattle.hlaws.proofs.TokensText.{is_clean_char, clean_not_null, is_written_ascii, tail_of}
+use Rattle.hlaws.proofs.TokensText.{is_clean_char, clean_not_null, tail_of, both_of}
 use Rattle.hlaws.proofs.TokensCuts.{split, Cuts, one, join, cuts_as, cuts_none}
 use Rattle.hlaws.proofs.TokensTags.{is_good}
 use Rattle.hlaws.proofs.TokensMarks.{IsElementName, an_end_tag, spells_is}
@@ -21,9 +21,7 @@ module _ (table : Entities) (end_at : ℕ) where
   raw_char : (p : Placed) (c : ℕ) (rest : List Placed) (here : Standing) → is_raw here.kind ≡ true → has_references here.kind ≡ false → p.ch ≡ c → is_clean_char c ≡ true → is_end_tag_of here.name (p ∷ rest) ≡ false
       → Cuts table end_at here (p ∷ []) rest (character c ∷ []) (λ there. there ≡ after_characters here (p ∷ []))
   raw_char p c rest here raw none same clean stays =
-      one table end_at here rest (piece_span (plain_piece p)) (character c ∷ []) (λ there. there ≡ after_characters here (p ∷ []))
-      (in_raw table end_at here rest (piece_span (plain_piece p)) raw (raw_character p (and_right _ _ stays) (rw none refl) refl))
-      (ap (λ (b : Bool). character (cond b 0xFFFD p.ch) ∷ []) (ap (λ (x : ℕ). x == 0) same ∙ clean_not_null c clean) ∙ ap (λ (x : ℕ). character x ∷ []) same) refl refl
+      one (piece_span (plain_piece p)) (in_raw table end_at here rest (piece_span (plain_piece p)) raw (raw_character p (and_right _ _ stays) (rw none refl) refl)) (ap (λ (b : Bool). character (cond b 0xFFFD p.ch) ∷ []) (ap (λ (x : ℕ). x == 0) same ∙ clean_not_null c clean) ∙ ap (λ (x : ℕ). character x ∷ []) same) refl refl
 
   -- a text in which no reference is read
   pub raw_cuts : (cs : List ℕ) (text rest : List Placed) (here : Standing) → is_raw here.kind ≡ true → has_references here.kind ≡ false → characters text ≡ cs → list_all is_clean_char cs ≡ true → NoEnd here.name text rest
@@ -32,11 +30,10 @@ module _ (table : Entities) (end_at : ℕ) where
   raw_cuts (c ∷ cs) (p ∷ ps) rest here raw none e clean stays =
       let same : p.ch ≡ c = first_is p ps c cs e in
       let others : characters ps ≡ cs = tail_of p ps c cs e in
-      let both = and_parts (is_clean_char c) (list_all is_clean_char cs) clean in
+      let both = and_parts _ _ clean in
       let first = raw_char p c (ps ++ rest) here raw none same both.0 stays.0 in
       let then = raw_cuts cs ps rest (after_characters here (p ∷ [])) raw none others both.1 stays.1 in
-      join table end_at here (p ∷ []) ps rest (character c ∷ []) (map (λ c. character c) cs) (λ there. there ≡ after_characters here (p ∷ [])) (λ there. there ≡ after_characters here (p ∷ ps)) first
-      (subst (λ (there : Standing). Cuts table end_at there ps rest (map (λ c. character c) cs) (λ there. there ≡ after_characters here (p ∷ ps))) (sym first.leads) then)
+      join first (subst (λ (there : Standing). Cuts table end_at there ps rest (map (λ c. character c) cs) (λ there. there ≡ after_characters here (p ∷ ps))) (sym first.leads) then)
   raw_cuts _ _ rest here raw none e clean stays = absurd cc
 
 -- WHERE NO END TAG STANDS
@@ -50,10 +47,8 @@ pub no_end_in : (name : Option (List ℕ)) (text rest : List Placed) (cs more : 
 no_end_in name [] rest cs more e k h = tt
 no_end_in name (p ∷ ps) rest [] more e k h = absurd cc
 no_end_in name (p ∷ ps) rest (c ∷ cs) more e k h =
-    let same : p.ch ≡ c = first_is p ps c cs e in
-    let others : characters ps ≡ cs = tail_of p ps c cs e in
-    let whole : characters (p ∷ ps ++ rest) ≡ c ∷ cs ++ 60 ∷ more = let x : characters (ps ++ rest) ≡ cs ++ 60 ∷ more = map-append (λ (p : Placed). p.ch) ps rest ∙ (λ i. others i ++ k i) in λ i. same i ∷ x i in
-    (of_name name (spells_is (codes "</") (p ∷ ps ++ rest) ∙ ap (begins_with (codes "</")) whole ∙ no_open_end c cs more h), no_end_in name ps rest cs more others k (or_parts _ _ h).1)
+    let whole : characters (p ∷ ps ++ rest) ≡ c ∷ cs ++ 60 ∷ more = both_of (p ∷ ps) rest e k in
+    (of_name name (spells_is (codes "</") (p ∷ ps ++ rest) ∙ ap (begins_with (codes "</")) whole ∙ no_open_end c cs more h), no_end_in name ps rest cs more (tail_of p ps c cs e) k (or_parts _ _ h).1)
   where
     of_name : (name : Option (List ℕ)) → spells (codes "</") (p ∷ ps ++ rest) ≡ false → is_end_tag_of name (p ∷ ps ++ rest) ≡ false
     of_name None s = refl
@@ -91,18 +86,14 @@ level_zero (p ∷ ps) front (c ∷ cs) e z h =
 -- THE END TAG
 
 good_lower : (c : ℕ) → is_good c ≡ true → (to_ascii_lowercase c == c) ≡ true
-good_lower c h =
-    let k = (and_parts (not (ends_attribute_name c)) (to_ascii_lowercase (without_null c) == c) (and_parts (not (ends_attribute_name c) && to_ascii_lowercase (without_null c) == c) (is_written_ascii c) h).0).1 in
-    grind (arith, nat_tests)
+good_lower c h = grind (arith, nat_tests)
 
 spells_name : (name : List ℕ) (text rest : List Placed) → characters text ≡ name → list_all is_good name ≡ true → spells_in_any_case name (text ++ rest) ≡ true
 spells_name [] text rest e h = refl
 spells_name (c ∷ cs) [] rest e h = absurd cc
 spells_name (c ∷ cs) (p ∷ ps) rest e h =
-    let same : p.ch ≡ c = first_is p ps c cs e in
-    let others : characters ps ≡ cs = tail_of p ps c cs e in
-    let both = and_parts (is_good c) (list_all is_good cs) h in
-    and_from _ _ (ap (λ (x : ℕ). to_ascii_lowercase x == c) same ∙ good_lower c both.0) (spells_name cs ps rest others both.1)
+    let both = and_parts _ _ h in
+    and_from _ _ (ap (λ (x : ℕ). to_ascii_lowercase x == c) (first_is p ps c cs e) ∙ good_lower c both.0) (spells_name cs ps rest (tail_of p ps c cs e) both.1)
 
 past_name : (name : List ℕ) (text rest : List Placed) → characters text ≡ name → drop (length name) (text ++ rest) ≡ rest
 past_name [] [] rest e = refl
@@ -133,6 +124,4 @@ raw_end_cuts table end_at name text rest here raw may named is_name e =
     let t = an_end_tag table end_at name text rest is_name e in
     let ends : is_raw_end here (t.span.text ++ rest) ≡ true =
     and_from _ _ may (ap (λ (n : Option (List ℕ)). is_end_tag_of n (t.span.text ++ rest)) named ∙ ap (λ (x : List Placed). is_end_tag_of (Some name) (x ++ rest)) t.text_is ∙ end_tag_here name text rest is_name e) in
-    cuts_as table end_at here t.span.text text rest (end name ∷ []) (λ there. there.kind ≡ kind.None) t.text_is
-    (one table end_at here rest t.span (end name ∷ []) (λ there. there.kind ≡ kind.None)
-    (in_raw table end_at here rest t.span raw (raw_end ends t.is_tag)) t.tokens_are t.in_profile (ap (λ (x : Standing). x.kind) (t.leads here)))
+    cuts_as t.text_is (one t.span (in_raw table end_at here rest t.span raw (raw_end ends t.is_tag)) t.tokens_are t.in_profile (ap (λ (x : Standing). x.kind) (t.leads here)))

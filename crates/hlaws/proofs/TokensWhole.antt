@@ -1,5 +1,5 @@
 -- Plain lists are read as their own tokens, in every context.
-use Rattle.hlaws.proofs.Names.{are_plain_attributes, arith, ◌≡◌, ℕ, Bool, true, false, not, cond, nat_lt, Option, Some, None, List, [], ◌∷◌, ◌++◌, map, length, refl, sym, ◌∙◌, ap, subst, append-nil, append_assoc, and_parts, false≢true, map-append, scalars-chars, codes, chars, IsUtf8, flat_map, Placed, RawKind, characters, raw_kind, is_void, tag_named, Entities, IsTable, HasCore, Attribute, Forest, none, tree, Eof, Standing, at_start, standing_after, has_references, may_end, texts, Token, start, end, comment, character, eof, Content, Role, Escaping, escaped, written_char, row, takes_role, takes_comments, Inside, inside_element, in_context_of, is_form_element, are_content, are_content_if, is_plain_comment, is_among_texts, has_no_null_or_return, has_part, plain_tokens, start_tag_text, end_tag_text, AreTexts, AreRead, PlainTokens, decoded_text, token_taken, chars-nil, IsUtf8-nil, Bom, Keep, end_errors, Texts, has_no_references, element_text, written_among, AreUtf8, is_raw, texts_in}
+use Rattle.hlaws.proofs.Names.{are_plain_attributes, arith, ◌≡◌, ℕ, Bool, true, false, not, cond, nat_lt, Option, Some, None, List, [], ◌∷◌, ◌++◌, map, length, refl, sym, ◌∙◌, ap, subst, append-nil, append_assoc, and_parts, false≢true, map-append, scalars-chars, codes, chars, IsUtf8, flat_map, Placed, RawKind, characters, raw_kind, is_void, tag_named, Entities, IsTable, HasCore, Attribute, Forest, none, tree, Eof, Standing, at_start, standing_after, has_references, may_end, texts, Token, start, end, comment, character, eof, Content, Role, Escaping, escaped, written_char, row, takes_role, takes_comments, Inside, inside_element, in_context_of, is_form_element, are_content, are_content_if, is_plain_comment, is_among_texts, has_no_null_or_return, has_part, plain_tokens, start_tag_text, end_tag_text, AreTexts, AreRead, PlainTokens, decoded_text, token_taken, chars-nil, IsUtf8-nil, Bom, Keep, end_errors, Texts, has_no_references, written_among, AreUtf8, is_raw, texts_in}
 use Rattle.names.specs.declared.raw.RawKind.TheVariants as kind
 use Rattle.hnodes.specs.Forest as forest
 use Rattle.htoken.specs.Tokens as cut
@@ -10,7 +10,7 @@ use Rattle.hserialize.proofs.Documents.{is_one_text, one_text as is_one}
 use Rattle.hmarkup.specs.CommentWalk.{backwards}
 use Rattle.htoken.proofs.InRaw.{after_characters}
 use Rattle.hlaws.proofs.Content.{three, four}
-use Rattle.hlaws.proofs.TokensText.{Spells, spells-append, spells_text, spells_utf8, clean_text, text_characters, begins_marked, no_part}
+use Rattle.hlaws.proofs.TokensText.{Spells, spells-append, spells_text, spells_utf8, clean_text, text_characters, begins_marked, no_part, both_of}
 use Rattle.hlaws.proofs.TokensCore.{escaped_as}
 use Rattle.hlaws.proofs.TokensCuts.{split, Cuts, Same, join, cuts_as, text_cuts}
 use Rattle.hlaws.proofs.TokensMarks.{IsElementName, after_start}
@@ -113,23 +113,16 @@ module _ (table : Entities) (is_table : IsTable table) (core : HasCore table) (h
   raw_element : (name : List ℕ) (attrs : List (Attribute (List ℕ))) (bytes cs : List ℕ) (ts : List (Token (List ℕ))) → IsElementName name → StartTag table is_table core how name attrs → Spells bytes cs
       → ((end_at : ℕ) (text rest : List Placed) (more : List ℕ) → characters text ≡ cs → characters rest ≡ 60 ∷ more → Cuts table end_at (after_start name) text rest ts (EndsRaw name))
       → Reads table (start_tag_text how name attrs ++ (bytes ++ end_tag_text name)) (start name attrs false ∷ (ts ++ end name ∷ []))
-  raw_element name attrs bytes cs ts is_name s spells inner = record {
-    codes_are = s.codes_are ++ (cs ++ ((codes "</" ++ name) ++ codes ">"));
-    spells = spells-append (start_tag_text how name attrs) s.codes_are (bytes ++ end_tag_text name) (cs ++ ((codes "</" ++ name) ++ codes ">")) s.spells
-        (spells-append bytes cs (end_tag_text name) ((codes "</" ++ name) ++ codes ">") spells (end_mapped table is_table core how name is_name));
-    cuts = λ end_at here text rest k e.
-        let a = split text s.codes_are (cs ++ ((codes "</" ++ name) ++ codes ">")) e in
-        let b = split a.back cs ((codes "</" ++ name) ++ codes ">") a.backs in
-        let first = s.cuts end_at here a.front (a.back ++ rest) k a.fronts in
-        let follows : characters (b.back ++ rest) ≡ ((codes "</" ++ name) ++ codes ">") ++ characters rest = map-append (λ (p : Placed). p.ch) b.back rest ∙ ap (λ (x : List ℕ). x ++ characters rest) b.backs in
+  raw_element name attrs bytes cs ts is_name s spells inner = reads-append s (record {
+    codes_are = cs ++ ((codes "</" ++ name) ++ codes ">");
+    spells = spells-append spells (end_mapped table is_table core how name is_name);
+    cuts = λ end_at here text rest is e.
+        let b = split text cs ((codes "</" ++ name) ++ codes ">") e in
+        let follows : characters (b.back ++ rest) ≡ ((codes "</" ++ name) ++ codes ">") ++ characters rest = both_of b.back rest b.backs refl in
         let then = inner end_at b.front (b.back ++ rest) (codes "/" ++ name ++ codes ">" ++ characters rest) b.fronts follows in
         let last = raw_end_cuts table end_at name b.back rest (standing_after (after_start name) then.spans) then.leads.raw then.leads.may then.leads.named is_name b.backs in
-        let both : Cuts table end_at (after_start name) a.back rest (ts ++ end name ∷ []) InData =
-        cuts_as table end_at (after_start name) (b.front ++ b.back) a.back rest (ts ++ end name ∷ []) InData (sym b.is) (join table end_at (after_start name) b.front b.back rest ts (end name ∷ []) (EndsRaw name) InData then last) in
-        cuts_as table end_at here (a.front ++ a.back) text rest (start name attrs false ∷ (ts ++ end name ∷ [])) InData (sym a.is)
-        (join table end_at here a.front a.back rest (start name attrs false ∷ []) (ts ++ end name ∷ []) (λ there. there ≡ after_start name) InData first
-        (subst (λ (there : Standing). Cuts table end_at there a.back rest (ts ++ end name ∷ []) InData) (sym first.leads) both));
-  }
+        subst (λ (there : Standing). Cuts table end_at there text rest (ts ++ end name ∷ []) InData) (sym is) (cuts_as (sym b.is) (join then last));
+  })
 
   -- its text, with references
   rcdata_inner : (name : List ℕ) (l : Forest (List ℕ)) (attrs : List (Attribute (List ℕ))) (which : Texts) → raw_kind (tag_named name) ≡ kind.Rcdata → IsElementName name → StartTag table is_table core how name attrs → OneText how which l
@@ -138,12 +131,11 @@ module _ (table : Entities) (is_table : IsTable table) (core : HasCore table) (h
       let w = escaped_as table core how setting.Text (chars o.t) (scalars-chars o.t o.utf8) (clean_text o.t o.utf8 o.clean) in
       raw_element name attrs (written_among how false l) w.codes_are (plain_tokens texts l) is_name s (subst (λ (x : List ℕ). Spells x w.codes_are) (sym o.text_is) w.spells)
       (λ end_at text rest more e f. subst (λ (x : List (Token (List ℕ))). Cuts table end_at (after_start name) text rest x (EndsRaw name)) (sym o.tokens_are)
-      (led table end_at (after_start name) text rest (map (λ c. character c) (chars o.t)) (Same (after_start name)) (EndsRaw name)
-      (λ there same. record {
+      (led (text_cuts table is_table (chars o.t) w.codes_are text rest end_at (after_start name) (ap has_references is) w.are e) (λ there same. record {
         raw = ap is_raw (same.kind_is ∙ is);
         may = ap (λ (k : RawKind). may_end k there.front) (same.kind_is ∙ is);
         named = same.name_is;
-      }) (text_cuts table is_table (chars o.t) w.codes_are text rest end_at (after_start name) (ap has_references is) w.are e)))
+      })))
 
   -- and without
   raw_inner : (name : List ℕ) (l : Forest (List ℕ)) (attrs : List (Attribute (List ℕ))) (which : Texts) → is_raw (raw_kind (tag_named name)) ≡ true → has_references (raw_kind (tag_named name)) ≡ false → IsElementName name → StartTag table is_table core how name attrs
@@ -152,13 +144,12 @@ module _ (table : Entities) (is_table : IsTable table) (core : HasCore table) (h
   raw_inner name l attrs which is no_refs is_name s o no_close may =
       raw_element name attrs (written_among how true l) (chars o.t) (plain_tokens texts l) is_name s (subst (λ (x : List ℕ). Spells x (chars o.t)) (sym o.raw_is) (spells_text o.t o.utf8 o.clean))
       (λ end_at text rest more e f. subst (λ (x : List (Token (List ℕ))). Cuts table end_at (after_start name) text rest x (EndsRaw name)) (sym o.tokens_are)
-      (led table end_at (after_start name) text rest (map (λ c. character c) (chars o.t)) (λ there. there ≡ after_characters (after_start name) text) (EndsRaw name)
-      (λ there same. record {
+      (led (raw_cuts table end_at (chars o.t) text rest (after_start name) is no_refs e (clean_text o.t o.utf8 o.clean)
+      (no_end_in (Some name) text rest (chars o.t) more e f (no_part (codes "</") o.t refl o.utf8 no_close))) (λ there same. record {
         raw = ap (λ (x : Standing). is_raw x.kind) same ∙ is;
         may = ap (λ (x : Standing). may_end x.kind x.front) same ∙ may text e;
         named = ap (λ (x : Standing). x.name) same;
-      }) (raw_cuts table end_at (chars o.t) text rest (after_start name) is no_refs e (clean_text o.t o.utf8 o.clean)
-      (no_end_in (Some name) text rest (chars o.t) more e f (no_part (codes "</") o.t refl o.utf8 no_close)))))
+      })))
 
   -- A LIST
 
@@ -172,10 +163,9 @@ module _ (table : Entities) (is_table : IsTable table) (core : HasCore table) (h
   an_element : (name : List ℕ) (attrs : List (Attribute (List ℕ))) (kids : Forest (List ℕ)) (inside : Inside) (k : RawKind) (v : Bool) → raw_kind (tag_named name) ≡ k → fits k (row (tag_named name)).1 v ≡ true
       → IsElementName name → StartTag table is_table core how name attrs → AreTexts kids → (is_raw k ≡ true → are_content (inside_element (tag_named name) inside) kids ≡ true) → ReadsList kids → Element name attrs kids k v
   an_element name attrs kids inside kind.None true is_kind fit is_name s u h kids_read =
-      reads-append table (start_tag_text how name attrs) [] (start name attrs false ∷ []) [] (start_tag_reads table is_table core how name attrs s is_kind) (reads-nil table)
+      reads-append (start_tag_reads table is_table core how name attrs s is_kind) (reads-nil table)
   an_element name attrs kids inside kind.None false is_kind fit is_name s u h kids_read =
-      reads-append table (start_tag_text how name attrs) (written_among how false kids ++ end_tag_text name) (start name attrs false ∷ []) (plain_tokens texts kids ++ end name ∷ []) (start_tag_reads table is_table core how name attrs s is_kind)
-      (reads-append table (written_among how false kids) (end_tag_text name) (plain_tokens texts kids) (end name ∷ []) kids_read (end_tag_reads table is_table core how name is_name))
+      reads-append (start_tag_reads table is_table core how name attrs s is_kind) (reads-append kids_read (end_tag_reads table is_table core how name is_name))
   an_element name attrs kids inside kind.Rcdata v is_kind fit is_name s u h kids_read =
       let e = raw_fits kind.Rcdata (row (tag_named name)).1 v refl fit in
       let within : Inside = inside_element (tag_named name) inside in
@@ -201,17 +191,15 @@ module _ (table : Entities) (is_table : IsTable table) (core : HasCore table) (h
   element_then m inside name attrs kids rest known u plain us h kids_read rest_read =
       let s = a_start_tag table is_table core how name attrs known.is_name u plain in
       let element = an_element name attrs kids inside (raw_kind (tag_named name)) (is_void (tag_named name)) refl known.fit known.is_name s us h kids_read in
-      told table _ _ _ (again (is_void (tag_named name)) name attrs (plain_tokens texts kids) (plain_tokens texts rest))
-      (reads-append table (element_text how name attrs (written_among how (has_no_references (raw_kind (tag_named name))) kids)) (written_among how false rest)
-      (start name attrs false ∷ cond (is_void (tag_named name)) [] (plain_tokens texts kids ++ end name ∷ [])) (plain_tokens texts rest) element rest_read)
+      told (again (is_void (tag_named name)) name attrs (plain_tokens texts kids) (plain_tokens texts rest)) (reads-append element rest_read)
 
   pub text_then : (m : ℕ) (t : List ℕ) (kids rest : Forest (List ℕ)) → IsUtf8 t → has_no_null_or_return t ≡ true → ReadsList rest → ReadsList (tree m (forest.text t) kids rest)
   text_then m t kids rest u clean rest_read =
-      reads-append table (escaped how setting.Text t) (written_among how false rest) (map (λ c. character c) (chars t)) (plain_tokens texts rest) (text_reads table is_table core how t u clean) rest_read
+      reads-append (text_reads table is_table core how t u clean) rest_read
 
   pub comment_then : (m : ℕ) (t : List ℕ) (kids rest : Forest (List ℕ)) → IsUtf8 t → is_plain_comment t ≡ true → ReadsList rest → ReadsList (tree m (forest.comment t) kids rest)
   comment_then m t kids rest u plain rest_read =
-      reads-append table ((codes "<!--" ++ t) ++ codes "-->") (written_among how false rest) (comment t ∷ []) (plain_tokens texts rest) (comment_reads table is_table core how t u plain) rest_read
+      reads-append (comment_reads table is_table core how t u plain) rest_read
 
   pub list_reads : (inside : Inside) (l : Forest (List ℕ)) → AreTexts l → are_content inside l ≡ true → ReadsList l
   list_reads inside none u h = reads-nil table

@@ -183,19 +183,19 @@ module _ {N : Type 0} (n : Naming N) (laws : NameLaws n) (z : State N) where
 
   -- TOKENS FROM A STATE THAT ACTS AS ANOTHER
 
-  start_step : (at : ℕ) (x : N) (attrs : List (Attribute N)) (s q s' : State N) → ActsAs n s q → Rule n at (start x attrs false) (step_begun q) ≡ Done s' → Step n at (start x attrs false) s (Goes s')
-  start_step at x attrs s q s' acts rule = goes refl (acts at (start x attrs false) (Goes s') refl (ends rule))
+  start_step : {at : ℕ} {x : N} {attrs : List (Attribute N)} {s s' : State N} (q : State N) → ActsAs n s q → Rule n at (start x attrs false) (step_begun q) ≡ Done s' → Step n at (start x attrs false) s (Goes s')
+  start_step {at} {x} {attrs} {s' = s'} q acts rule = goes refl (acts at (start x attrs false) (Goes s') refl (ends rule))
 
-  char_step : (at ch : ℕ) (s s' : State N) → (s.control.drop_lf && ch == 10) ≡ false → Rule n at (character ch) (step_begun s) ≡ Done s' → Step n at (character ch) s (Goes s')
-  char_step at ch s s' stays rule = goes stays (ends rule)
+  char_step : {at ch : ℕ} {s s' : State N} → (s.control.drop_lf && ch == 10) ≡ false → Rule n at (character ch) (step_begun s) ≡ Done s' → Step n at (character ch) s (Goes s')
+  char_step stays rule = goes stays (ends rule)
 
   pub itself : (s : State N) → ActsAs n s s
   itself s at t o h chain = chain
 
   -- a node after which the state stands as the law says
-  as_it_stands : (b : ℕ) (w : What N) (kids : Forest N) (made : ℕ) (f : Forest N) (d : OpenNode N) (up : List (OpenNode N)) (items items' : List (Listed N)) (c c' : Control) (s : State N) (ts us : List (PlacedToken N)) → ts ≡ us
+  as_it_stands : {b : ℕ} {w : What N} {kids : Forest N} {made : ℕ} {f : Forest N} {d : OpenNode N} {up : List (OpenNode N)} {items items' : List (Listed N)} {c c' : Control} {s : State N} {ts us : List (PlacedToken N)} → ts ≡ us
       → Steps n us s (Goes (state z (made + (1 + (size kids + 0))) (under d.node (numbered_forest made (tree b w kids none)) f) (d ∷ up) items' c')) → Thinned items items' → Keeps c c' → c'.drop_lf ≡ false → NodeBuilt b w kids made f d up items c s ts
-  as_it_stands b w kids made f d up items items' c c' s ts us is steps t k drop =
+  as_it_stands {b} {w} {kids} {made} {f} {d} {up} {items' = items'} {c' = c'} {s = s} is steps t k drop =
       let s1 : State N = state z (made + (1 + (size kids + 0))) (under d.node (numbered_forest made (tree b w kids none)) f) (d ∷ up) items' c' in
       record {
         built = record { items' = items'; control' = c'; reached = s1; steps = subst (λ (us : List (PlacedToken N)). Steps n us s (Goes s1)) (sym is) steps; acts = itself s1; thinned = t; keeps = k };
@@ -205,9 +205,9 @@ module _ {N : Type 0} (n : Naming N) (laws : NameLaws n) (z : State N) where
 
   -- COMMENTS
 
-  comment_built : (i : Inside) (b : ℕ) (t : List ℕ) (made : ℕ) (f : Forest N) (d : OpenNode N) (up : List (OpenNode N)) (items : List (Listed N)) (c : Control) (s : State N) (ts : List (PlacedToken N))
+  comment_built : {i : Inside} {b : ℕ} {t : List ℕ} {made : ℕ} {f : Forest N} {d : OpenNode N} {up : List (OpenNode N)} {items : List (Listed N)} {c : Control} {s : State N} {ts : List (PlacedToken N)}
       → Quiet n z.context i made f d up items c → ActsAs n s (state z made f (d ∷ up) items c) → made < z.site.nodes.limit → AreTokens ts (comment t ∷ []) → NodeBuilt b (forest.comment t) none made f d up items c s ts
-  comment_built i b t made f d up items c s ts q acts room h =
+  comment_built {i} {t = t} {made} {f} {d} {up} {items} {c} {s} {ts} q acts room h =
       let p = first ts (comment t) [] h in
       let full : nat_le z.site.nodes.limit made ≡ false = lt-leb z.site.nodes.limit made room in
       let s0 : State N = state z made f (d ∷ up) items (begun_control c) in
@@ -215,8 +215,7 @@ module _ {N : Type 0} (n : Naming N) (laws : NameLaws n) (z : State N) where
       let rule : Rule n p.at (comment t) s0 ≡ Done s1 =
       ap (λ r. perform n p.at (comment t) r s0) (comment_rule i.content c.mode q.mode_fits) ∙ simp (full, graft-new d.node made (forest.comment t) f (q.fresh made (omega arith))) refl in
       let one : Step n p.at (comment t) s (Goes s1) = goes refl (acts p.at (comment t) (Goes s1) refl (ends rule)) in
-      as_it_stands b (forest.comment t) none made f d up items items c (begun_control c) s ts _ (p.is ∙ ap (λ us. record { token = comment t; at = p.at } ∷ us) (ended p.others p.rest)) (and one step.none) same
-      (record { mode = refl; head = refl; form = refl; quirks = refl }) refl
+      as_it_stands (p.is ∙ ap (λ us. record { token = comment t; at = p.at } ∷ us) (ended p.others p.rest)) (and one step.none) same (begun_keeps c) refl
 
   -- TEXTS
 
@@ -234,19 +233,18 @@ module _ {N : Type 0} (n : Naming N) (laws : NameLaws n) (z : State N) where
       (new ∷ k.0, ap (λ l. ch ∷ l) k.1, subst (λ (us : List (PlacedToken N)). Steps n us (S a) (Goes (S (all_read next (next a new) k.0)))) (sym p.is) (and (each a new both.0) k.2))
 
   -- a text, where each of its characters goes in by one rule
-  pub text_built : (d : OpenNode N) (up : List (OpenNode N)) (items : List (Listed N)) (m : Mode) (ok : ℕ → Bool) → rules.Puts n z d up items m ok → (made : ℕ) (f : Forest N) → times d.node f ≡ 1 → times made f ≡ 0
-      → (t : List ℕ) (is : IsText t) (c : Control) (ts : List (PlacedToken N)) → c.mode ≡ m → (c.drop_lf && is.one == 10) ≡ false → list_all ok (is.one ∷ is.more) ≡ true → text_before (LastIn d.node) f ≡ None
+  pub text_built : {d : OpenNode N} {up : List (OpenNode N)} {items : List (Listed N)} {m : Mode} {ok : ℕ → Bool} {made : ℕ} {f : Forest N} {t : List ℕ} {c : Control} {ts : List (PlacedToken N)} → rules.Puts n z d up items m ok → times d.node f ≡ 1 → times made f ≡ 0
+      → (is : IsText t) → c.mode ≡ m → (c.drop_lf && is.one == 10) ≡ false → list_all ok (is.one ∷ is.more) ≡ true → text_before (LastIn d.node) f ≡ None
       → made < z.site.nodes.limit → AreTokens ts (map (λ ch. character ch) (chars t))
       → Steps n ts (state z made f (d ∷ up) items c) (Goes (state z (made + 1) (under d.node (tree made (text t) none none) f) (d ∷ up) items (begun_control c)))
-  text_built d up items m ok puts made f once absent t is c ts mode safe oks none_before room h =
+  text_built {d} {up} {items} {m} {ok} {made} {f} {t} {c} {ts} puts once absent is mode safe oks none_before room h =
       let p = first ts (character is.one) (map (λ ch. character ch) is.more) (h ∙ ap (map (λ ch. character ch)) is.mapped) in
       let both = and_parts (ok is.one) (list_all ok is.more) oks in
       let s : State N = state z made f (d ∷ up) items c in
       let with_text : List ℕ → State N = λ u. state z (made + 1) (under d.node (tree made (text u) none none) f) (d ∷ up) items (begun_control c) in
       let one : Step n p.at (character is.one) s (Goes (with_text (encode_utf8 is.one))) =
-      char_step p.at is.one s (with_text (encode_utf8 is.one)) safe (puts p.at is.one made f (begun_control c) (with_text (encode_utf8 is.one)) mode both.0 (rules.put_first n z d up items p.at is.one made f (begun_control c) none_before absent room)) in
-      let k = chars_read ok then_char with_text (λ u q fine. char_step q.at q.ch (with_text u) (with_text (u ++ encode_utf8 q.ch)) refl
-      (puts q.at q.ch (made + 1) (under d.node (tree made (text u) none none) f) (begun_control c) (with_text (u ++ encode_utf8 q.ch)) mode fine (rules.put_next n z d up items q.at q.ch (made + 1) made u f (begun_control c) once absent)))
+      char_step safe (puts p.at is.one made f (begun_control c) (with_text (encode_utf8 is.one)) mode both.0 (rules.put_first n z d up items p.at is.one made f (begun_control c) none_before absent room)) in
+      let k = chars_read ok then_char with_text (λ u q fine. char_step refl (puts q.at q.ch (made + 1) (under d.node (tree made (text u) none none) f) (begun_control c) (with_text (u ++ encode_utf8 q.ch)) mode fine (rules.put_next n z d up items q.at q.ch (made + 1) made u f (begun_control c) once absent)))
       (encode_utf8 is.one) is.more p.others both.1 p.rest in
       let all : all_read then_char (encode_utf8 is.one) k.0 ≡ t = text_read (encode_utf8 is.one) k.0 ∙ ap (λ l. encode_utf8_all (is.one ∷ l)) k.1 ∙ is.bytes in
       subst (λ (us : List (PlacedToken N)). Steps n us s (Goes (with_text t))) (sym p.is) (subst (λ (u : List ℕ). Steps n (record { token = character is.one; at = p.at } ∷ p.others) s (Goes (with_text u))) all (and one k.2))
@@ -307,10 +305,10 @@ module _ {N : Type 0} (n : Naming N) (laws : NameLaws n) (z : State N) where
     finish ts t inner close =
         let s1 : State N = state z (made + 1) (under d.node (tree made (element x attrs) none none) f) (node made x ∷ d ∷ up) items1 c1 in
         let s3 : State N = state z (made + (1 + (size kids + 0))) (under d.node (numbered_forest made (tree b (element x attrs) kids none)) f) (d ∷ up) close.items3 close.control3 in
-        let one : Step n t.at (start x attrs false) s (Goes s1) = start_step t.at x attrs s (state z made f (d ∷ up) items c) s1 from (opening t.at) in
+        let one : Step n t.at (start x attrs false) s (Goes s1) = start_step (state z made f (d ∷ up) items c) from (opening t.at) in
         let three : Step n t.at_end (end x) inner.reached (Goes s3) = goes refl (inner.acts t.at_end (end x) (Goes s3) refl (ends (close.rule t.at_end (made + (1 + (size kids + 0))) (under d.node (numbered_forest made (tree b (element x attrs) kids none)) f)))) in
         let all : Steps n (record { token = start x attrs false; at = t.at } ∷ t.inner ++ record { token = end x; at = t.at_end } ∷ []) s (Goes s3) = and one (after inner.steps (and three step.none)) in
-        as_it_stands b (element x attrs) kids made f d up items close.items3 c close.control3 s ts _ t.is all close.thins close.keeps close.no_drop
+        as_it_stands t.is all close.thins close.keeps close.no_drop
 
     -- children that are built by the law
     inner_built : (ts : List (PlacedToken N)) → Built kids (made + 1) (under d.node (tree made (element x attrs) none none) f) (node made x) (d ∷ up) items1 c1 (state z (made + 1) (under d.node (tree made (element x attrs) none none) f) (node made x ∷ d ∷ up) items1 c1) ts → Inner ts
@@ -326,8 +324,8 @@ module _ {N : Type 0} (n : Naming N) (laws : NameLaws n) (z : State N) where
               (subst (λ (m : ℕ). ActsAs n k.reached (state z m (under made (numbered_forest (made + 1) kids) (under d.node (tree made (element x attrs) none none) f)) (node made x ∷ d ∷ up) k.items' k.control')) count k.acts);
         }
 
-  built_none : (made : ℕ) (f : Forest N) (d : OpenNode N) (up : List (OpenNode N)) (items : List (Listed N)) (c : Control) (s : State N) (ts : List (PlacedToken N)) → ActsAs n s (state z made f (d ∷ up) items c) → AreTokens ts [] → Built none made f d up items c s ts
-  built_none made f d up items c s ts from h =
+  built_none : {made : ℕ} {f : Forest N} {d : OpenNode N} {up : List (OpenNode N)} {items : List (Listed N)} {c : Control} {s : State N} {ts : List (PlacedToken N)} → ActsAs n s (state z made f (d ∷ up) items c) → AreTokens ts [] → Built none made f d up items c s ts
+  built_none {made} {f} {d} {up} {items} {c} {s} {ts} from h =
       let count : made ≡ made + 0 = omega arith in
       record {
         items' = items;
@@ -362,10 +360,10 @@ module _ {N : Type 0} (n : Naming N) (laws : NameLaws n) (z : State N) where
 
     raw_built : (l : Forest N) → OneText l → Raw l
     unfolding built_none
-    raw_built l (nothing_there e) = subst (λ (v : Forest N). Raw v) (sym e) (λ ts safe room h. (built_none made f d up items c (state z made f (d ∷ up) items c) ts (itself (state z made f (d ∷ up) items c)) h, refl))
+    raw_built l (nothing_there e) = subst (λ (v : Forest N). Raw v) (sym e) (λ ts safe room h. (built_none (itself (state z made f (d ∷ up) items c)) h, refl))
     raw_built l (one_text b u is e) = subst (λ (v : Forest N). Raw v) (sym e) (λ ts safe room h.
         let s : State N = state z (made + 1) (under d.node (tree made (text u) none none) f) (d ∷ up) items (begun_control c) in
-        let steps = text_built d up items Text is_clean_char (rules.raw_puts n z d up items) made f once absent u is c ts is_text_mode (safe is) is.clean none_before (omega arith) (h ∙ append-nil (map (λ ch. character ch) (chars u))) in
+        let steps = text_built (rules.raw_puts n z d up items) once absent is is_text_mode (safe is) is.clean none_before (omega arith) (h ∙ append-nil (map (λ ch. character ch) (chars u))) in
         (record { items' = items; control' = begun_control c; reached = s; steps = steps; acts = itself s; thinned = same; keeps = begun_keeps c }, refl))
 
   -- an element that holds one
@@ -654,6 +652,10 @@ module _ {N : Type 0} (n : Naming N) (laws : NameLaws n) (z : State N) where
       a_raw_element : (w : Family) (k : Content) → IsFlowRule (Start w) raw → profile (n.tag x) ≡ plain_profile w role.Phrasing k → content_within i.content k ≡ k → takes_comments k ≡ false → ((r : Role) → takes_role k r ≡ false) → (ts : List (PlacedToken N)) → Spells ts → Node ts
       a_raw_element w k rule p within no_comments no_elements = a_raw w k false p within no_comments no_elements (flow_start _ p raw _ (phrasing_flows _ p refl) rule (λ at. simp (full, high, grown) refl))
 
+      -- the parts of a table are in it
+      in_table : i.content ≡ content.TableParts → (c.mode ≡ InTable) × (is_table_context (n.tag d.name) ≡ true)
+      in_table e = ((own_mode c.mode).parts (mode_in n q content.TableParts e), (and_parts (is_table_context (n.tag d.name)) _ (current_in n q content.TableParts e)).0)
+
       of_class : (w : Family) (k : Content) → profile (n.tag x) ≡ class_profile w k → is_void (n.tag x) ≡ false → (ts : List (PlacedToken N)) → Spells ts → Node ts
       of_class family.Block content.ListItems p plain = a_block content.ListItems true false p refl (λ m. refl) (ap (λ r. r.holds_list_items) p)
       of_class family.Block content.Definitions p plain = a_block content.Definitions false true p refl (λ m. refl) (ap (λ r. r.is_dl) p)
@@ -736,16 +738,12 @@ module _ {N : Type 0} (n : Naming N) (laws : NameLaws n) (z : State N) where
           (flow_start _ p (by_start family.Table) _ flow.0 (refl, refl, refl) (λ at. grind (arith, flow.1, full, high, grown)))
           (mode_ends _ p InTable (λ l. l) _ (λ at m g items2 c2. simp known refl))
       of_class family.Colgroup k p plain =
-          let e : i.content ≡ content.TableParts = stands _ p refl in
-          let mode_at : c.mode ≡ InTable = (own_mode c.mode).parts (mode_in n q content.TableParts e) in
-          let clear : is_table_context (n.tag d.name) ≡ true = (and_parts (is_table_context (n.tag d.name)) _ (current_in n q content.TableParts e)).0 in
+          let (mode_at, clear) = in_table (stands _ p refl) in
           in_parts _ p content.Columns InColumnGroup InTable refl refl refl refl refl (ap (λ r. r.is_colgroup) p) refl (sym mode_at)
           (mode_start _ p InTable _ mode_at (λ at. simp (clear, full, high, grown) refl))
           (mode_ends _ p InColumnGroup (λ l. l) InTable (λ at m g items2 c2. refl))
       of_class family.TableSection k p plain =
-          let e : i.content ≡ content.TableParts = stands _ p refl in
-          let mode_at : c.mode ≡ InTable = (own_mode c.mode).parts (mode_in n q content.TableParts e) in
-          let clear : is_table_context (n.tag d.name) ≡ true = (and_parts (is_table_context (n.tag d.name)) _ (current_in n q content.TableParts e)).0 in
+          let (mode_at, clear) = in_table (stands _ p refl) in
           let section : is_body_context (n.tag x) ≡ true = ap (λ r. r.body_context) p in
           in_parts _ p content.TableRows InTableBody InTable refl refl refl refl refl (ap (λ r. r.body_context && (r.fosters || false)) p) refl (sym mode_at)
           (mode_start _ p InTable _ mode_at (λ at. simp (clear, full, high, grown) refl))
@@ -760,9 +758,7 @@ module _ {N : Type 0} (n : Naming N) (laws : NameLaws n) (z : State N) where
           (mode_start _ p InTableBody _ mode_at (λ at. simp (clear, full, high, grown) refl))
           (mode_ends _ p InRow (λ l. l) InTableBody (λ at m g items2 c2. simp (known, row_is) refl))
       of_class family.Caption k p plain =
-          let e : i.content ≡ content.TableParts = stands _ p refl in
-          let mode_at : c.mode ≡ InTable = (own_mode c.mode).parts (mode_in n q content.TableParts e) in
-          let clear : is_table_context (n.tag d.name) ≡ true = (and_parts (is_table_context (n.tag d.name)) _ (current_in n q content.TableParts e)).0 in
+          let (mode_at, clear) = in_table (stands _ p refl) in
           let known : n.same x (n.known tag.Caption) ≡ true = laws.caption x (ap (λ r. r.family) p) in
           marking _ p InCaption InTable refl refl refl refl refl refl refl (sym mode_at)
           (mode_start _ p InTable _ mode_at (λ at. simp (clear, full, high, grown) refl))
@@ -793,9 +789,8 @@ module _ {N : Type 0} (n : Naming N) (laws : NameLaws n) (z : State N) where
       void_built : Comes passed → (ts : List (PlacedToken N)) → Void ts
       void_built opening ts h =
           let t = first ts (start x attrs false) [] h in
-          let one : Step n t.at (start x attrs false) s (Goes passed) = start_step t.at x attrs s (state z made f (d ∷ up) items c) passed from (opening t.at) in
-          as_it_stands b (element x attrs) none made f d up items items c (record (begun_control c) { acknowledged = true }) s ts _ (t.is ∙ ap (λ us. record { token = start x attrs false; at = t.at } ∷ us) (ended t.others t.rest)) (and one step.none) same
-          (record { mode = refl; head = refl; form = refl; quirks = refl }) refl
+          let one : Step n t.at (start x attrs false) s (Goes passed) = start_step (state z made f (d ∷ up) items c) from (opening t.at) in
+          as_it_stands (t.is ∙ ap (λ us. record { token = start x attrs false; at = t.at } ∷ us) (ended t.others t.rest)) (and one step.none) same (record { mode = refl; head = refl; form = refl; quirks = refl }) refl
 
       in_phrasing : (r : Profile) (p : profile (n.tag x) ≡ r) (rule : Do) → IsFlowRule (Start r.family) rule → r.role ≡ role.Phrasing → ((at : ℕ) → perform n at (start x attrs false) rule now ≡ Done passed) → (ts : List (PlacedToken N)) → Void ts
       in_phrasing r p rule h e done = void_built (flow_start r p rule _ (phrasing_flows r p e) h done)
@@ -840,7 +835,7 @@ module _ {N : Type 0} (n : Naming N) (laws : NameLaws n) (z : State N) where
       -- in flow, and in a colgroup
       put_at_once : (m : Mode) (ok : ℕ → Bool) → rules.Puts n z d up items m ok → c.mode ≡ m → list_all ok (good.is.one ∷ good.is.more) ≡ true → Node
       put_at_once m ok puts mode oks =
-          as_it_stands b (text t) none made f d up items items c (begun_control c) s ts ts refl (text_built d up items m ok puts made f q.once absent_now t good.is c ts mode safe oks none_before room h) same (begun_keeps c) refl
+          as_it_stands refl (text_built puts q.once absent_now good.is mode safe oks none_before room h) same (begun_keeps c) refl
 
       -- in the parts of a table, where white space waits
       in_parts : rules.is_parts_mode c.mode ≡ true → is_fostering (n.tag d.name) ≡ true → list_all is_space (good.is.one ∷ good.is.more) ≡ true → Node
@@ -852,7 +847,7 @@ module _ {N : Type 0} (n : Naming N) (laws : NameLaws n) (z : State N) where
           let held : List Placed → State N = λ l. state z made f (d ∷ up) items (record c0 { pending = l }) in
           let one : Step n p.at (character good.is.one) s (Goes (held (new ∷ []))) =
           goes safe (goes_again (rules.first_held n z p.at made f d up items (begun_control c) good.is.one parts both.0 fosters) (ends (rules.held n z p.at made f d up items c0 good.is.one refl both.0))) in
-          let k = chars_read is_space then_placed held (λ l q fine. char_step q.at q.ch (held l) (held (l ++ q ∷ [])) refl (rules.held n z q.at made f d up items (record c0 { pending = l }) q.ch refl fine))
+          let k = chars_read is_space then_placed held (λ l q fine. char_step refl (rules.held n z q.at made f d up items (record c0 { pending = l }) q.ch refl fine))
           (new ∷ []) good.is.more p.others both.1 p.rest in
           let all : List Placed = new ∷ k.0 in
           let steps : Steps n ts s (Goes (held all)) = subst (λ (us : List (PlacedToken N)). Steps n us s (Goes (held all))) (sym p.is)
@@ -887,11 +882,11 @@ module _ {N : Type 0} (n : Naming N) (laws : NameLaws n) (z : State N) where
       go content.Empty e = absurd (text_now content.Empty e)
       go k e = put_at_once c.mode is_clean_char (rules.flow_puts n z d up items c.mode (mode_in n q k e) q.listed) refl good.is.clean
 
-  node_and_rest : (b : ℕ) (w : What N) (kids rest : Forest N) → LawOf rest → (i : Inside) (made : ℕ) (f : Forest N) (d : OpenNode N) (up : List (OpenNode N)) (items : List (Listed N)) (c : Control) (s : State N) (ts : List (PlacedToken N)) (us : List (Token N))
+  node_and_rest : {b : ℕ} {w : What N} {kids rest : Forest N} {i : Inside} {made : ℕ} {f : Forest N} {d : OpenNode N} {up : List (OpenNode N)} {items : List (Listed N)} {c : Control} {s : State N} {ts : List (PlacedToken N)} → LawOf rest → (us : List (Token N))
       → Quiet n z.context i made f d up items c → Good n i rest → (begins_text rest ≡ true → is_text w ≡ false) → (is_text w ≡ false → if_text made (Some w) ≡ None) → made + (1 + (size kids + size rest)) ≤ z.site.nodes.limit → suc (length up) + depth rest ≤ z.site.open_nodes.limit
       → AreTokens ts (us ++ plain_tokens n rest) → ((front : List (PlacedToken N)) → AreTokens front us → NodeBuilt b w kids made f d up items c s front)
       → Built (tree b w kids rest) made f d up items c s ts
-  node_and_rest b w kids rest law i made f d up items c s ts us q g other unlike room deep h node_law =
+  node_and_rest {b} {w} {kids} {rest} {i} {made} {f} {d} {up} {items} {c} {s} {ts} law us q g other unlike room deep h node_law =
       let p = parted ts us (plain_tokens n rest) h in
       let node_head = node_law p.front p.fronts in
       let head = node_head.built in
@@ -914,7 +909,7 @@ module _ {N : Type 0} (n : Naming N) (laws : NameLaws n) (z : State N) where
       }
 
   pub builds : (l : Forest N) → LawOf l
-  builds none i made f d up items c s ts q g from no_text before safe room deep h = built_none made f d up items c s ts from h
+  builds none i made f d up items c s ts q g from no_text before safe room deep h = built_none from h
   builds (tree b (element x attrs) kids rest) i made f d up items c s ts q g from no_text before safe room deep h =
       go (is_void (n.tag x)) refl (builds kids) (builds rest)
     where
@@ -929,20 +924,16 @@ module _ {N : Type 0} (n : Naming N) (laws : NameLaws n) (z : State N) where
 
       go : (v : Bool) → is_void (n.tag x) ≡ v → LawOf kids → LawOf rest → Built (tree b (element x attrs) kids rest) made f d up items c s ts
       go false plain law_kids law_rest =
-          node_and_rest b (element x attrs) kids rest law_rest i made f d up items c s ts (start x attrs false ∷ plain_tokens n kids ++ end x ∷ []) q g.4 (λ e. refl) (λ e. refl) room (omega arith) (mapped n b x attrs kids rest ts plain h)
-          (λ front e. of_class x attrs i made f d up items c s q from g.0 (omega arith) (omega arith) b kids law_kids g.1 g.2 g.3 (omega arith) (omega arith) w k p plain front e)
+          node_and_rest law_rest (start x attrs false ∷ plain_tokens n kids ++ end x ∷ []) q g.4 (λ e. refl) (λ e. refl) room (omega arith) (mapped n b x attrs kids rest ts plain h) (λ front e. of_class x attrs i made f d up items c s q from g.0 (omega arith) (omega arith) b kids law_kids g.1 g.2 g.3 (omega arith) (omega arith) w k p plain front e)
       go true void_is law_kids law_rest =
           let empty : kids ≡ none = good-empty (inside_element (n.tag x) i) kids (ap (λ o. content_within i.content o.content) p ∙ ap (content_within i.content) (void_empty w k (sym (ap (λ r. r.is_void) p) ∙ void_is))) g.3 in
           let h1 : AreTokens ts (start x attrs false ∷ plain_tokens n rest) = h ∙ (rw void_is refl) in
           let sized : size kids ≡ 0 = ap size empty in
           subst (λ (k : Forest N). Built (tree b (element x attrs) k rest) made f d up items c s ts) (sym empty)
-          (node_and_rest b (element x attrs) none rest law_rest i made f d up items c s ts (start x attrs false ∷ []) q g.4 (λ e. refl) (λ e. refl) (omega arith) (omega arith) h1
-          (λ front e. of_void x attrs i made f d up items c s q from g.0 (omega arith) (omega arith) b w k p void_is front e))
+          (node_and_rest law_rest (start x attrs false ∷ []) q g.4 (λ e. refl) (λ e. refl) (omega arith) (omega arith) h1 (λ front e. of_void x attrs i made f d up items c s q from g.0 (omega arith) (omega arith) b w k p void_is front e))
   builds (tree b (text t) none rest) i made f d up items c s ts q g from no_text before safe room deep h =
       subst (λ (u : State N). Built (tree b (text t) none rest) made f d up items c u ts) (sym (no_text refl))
-      (node_and_rest b (text t) none rest (builds rest) i made f d up items c (state z made f (d ∷ up) items c) ts (map (λ ch. character ch) (chars t)) q g.2 (λ e. absurd (let z = g.1 in cc)) (λ e. absurd cc) room deep h
-      (λ front e. text_node i b t made f d up items c q g.0 (before refl) (safe g.0.is) (omega arith) front e))
+      (node_and_rest (builds rest) (map (λ ch. character ch) (chars t)) q g.2 (λ e. absurd (let z = g.1 in cc)) (λ e. absurd cc) room deep h (λ front e. text_node i b t made f d up items c q g.0 (before refl) (safe g.0.is) (omega arith) front e))
   builds (tree b (forest.comment t) none rest) i made f d up items c s ts q g from no_text before safe room deep h =
-      node_and_rest b (forest.comment t) none rest (builds rest) i made f d up items c s ts (comment t ∷ []) q g.1 (λ e. refl) (λ e. refl) room deep h
-      (λ front e. comment_built i b t made f d up items c s front q from (omega arith) e)
+      node_and_rest (builds rest) (comment t ∷ []) q g.1 (λ e. refl) (λ e. refl) room deep h (λ front e. comment_built q from (omega arith) e)
   builds _ i made f d up items c s ts q g from no_text before safe room deep h = absurd g
