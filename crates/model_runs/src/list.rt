@@ -1,39 +1,34 @@
 //! Calls of the list of active formatting elements.
 
 use crate::hand::Hand;
-use crate::words::{number, word};
+use crate::words::Call;
 use hnodes::Attributes;
 use hopen::{Formatting, Open};
 use names::{Attr, Refusal};
 use std::alloc::AllocError;
 
 /// Makes a call. Whether the entry that it is of is then found, or is not.
-pub fn call(
-    list: &mut Formatting,
-    hand: &mut Hand,
-    line: &str,
-    turn: usize,
-) -> Result<bool, Refusal> {
-    match word(line, 1) {
+pub fn call(list: &mut Formatting, hand: &mut Hand, call: &Call) -> Result<bool, Refusal> {
+    match call.word(1) {
         "marker" => list.marker()?,
         "clear" => list.clear(),
         "get" => {
-            list.reach(turn);
-            return Ok(list.get(turn).is_some());
+            list.reach(call.turn);
+            return Ok(list.get(call.turn).is_some());
         }
-        "remove" | "replace" => return edit(list, hand, line, turn),
-        _ => return push(list, hand, line, turn),
+        "remove" | "replace" => return edit(list, hand, call),
+        _ => return push(list, hand, call),
     }
     Ok(true)
 }
 
-/// Pushes an entry.
-fn push(list: &mut Formatting, hand: &mut Hand, line: &str, turn: usize) -> Result<bool, Refusal> {
-    let named = word(line, 1) == "push";
+fn push(list: &mut Formatting, hand: &mut Hand, call: &Call) -> Result<bool, Refusal> {
+    let turn = call.turn;
+    let named = call.word(1) == "push";
     let Open { node, name } = hand.open(turn, if named { turn } else { 0 })?;
-    let attrs = match word(line, 1) {
+    let attrs = match call.word(1) {
         "alike" => alike(hand, turn)?,
-        "wide" => hand.attrs(number(line, 3), turn)?,
+        "wide" => hand.attrs(call.number(3), turn)?,
         _ => Vec::new(hand.alloc),
     };
     list.push(node, name, Attributes::new(attrs, hand.alloc)?)?;
@@ -49,11 +44,11 @@ fn alike(hand: &mut Hand, turn: usize) -> Result<Vec<Attr>, AllocError> {
 }
 
 /// Takes out the entry of a node, or gives it to another: the numbers of the first nodes are in the line.
-fn edit(list: &mut Formatting, hand: &mut Hand, line: &str, turn: usize) -> Result<bool, Refusal> {
-    let from = number(line, 3).saturating_add(turn);
+fn edit(list: &mut Formatting, hand: &mut Hand, call: &Call) -> Result<bool, Refusal> {
+    let from = call.number(3).saturating_add(call.turn);
     let Open { node, name } = hand.open(from, from)?;
-    let to = hand.node(number(line, 4).saturating_add(turn));
-    let replaced = word(line, 1) == "replace";
+    let to = hand.node(call.number(4).saturating_add(call.turn));
+    let replaced = call.word(1) == "replace";
     if replaced {
         list.replace(node, to);
     } else {

@@ -38,7 +38,5 @@ pub fn quirks(alloc: Global, count: usize) -> Result<Quirks, Refusal> {
 /// Whether a new site has no errors.
 pub fn has_no_errors(alloc: Global) -> Result<bool, Refusal> {
     let site = Site::new(alloc, Keys::for_tests(), 1, 1)?;
-    let is_empty = site.errors().is_empty();
-    drop(site);
-    Ok(is_empty)
+    Ok(site.errors().is_empty())
 }

@@ -14,10 +14,11 @@ mod tree;
 mod words;
 
 use crate::hand::Hand;
-use crate::words::{after, number, word};
+use crate::words::Call;
 use charref::Table;
 use hmarkup::Quirks;
 use hopen::{Formatting, OpenStack};
+use hwrite::Options;
 use names::{Keys, Refusal};
 use std::alloc::{AllocError, Global};
 use std::io;
@@ -82,9 +83,11 @@ impl Structures {
     /// was as it should be after it.
     fn calls(&mut self, line: &str) -> Result<usize, Refusal> {
         let mut right = 0usize;
-        for turn in 0..number(line, 2) {
-            let answer = match self.call(line, turn) {
-                Err(Refusal::Memory) => self.call(line, turn),
+        let mut call = Call { line, turn: 0 };
+        for turn in 0..call.number(2) {
+            call.turn = turn;
+            let answer = match self.call(&call) {
+                Err(Refusal::Memory) => self.call(&call),
                 answer => answer,
             };
             right = right.saturating_add(usize::from(answer?));
@@ -93,31 +96,30 @@ impl Structures {
     }
 
     /// Makes a call. Whether all is as it should be after it.
-    fn call(&mut self, line: &str, turn: usize) -> Result<bool, Refusal> {
+    fn call(&mut self, call: &Call) -> Result<bool, Refusal> {
         let hand = &mut self.hand;
-        match word(line, 0) {
-            "tree" => tree::call(hand, line, turn),
-            "stack" => stack::call(&mut self.stack, hand, word(line, 1), turn),
-            "list" => list::call(&mut self.list, hand, line, turn),
+        match call.word(0) {
+            "tree" => tree::call(hand, call),
+            "stack" => stack::call(&mut self.stack, hand, call),
+            "list" => list::call(&mut self.list, hand, call),
             "names" => {
-                let name = hand.name(turn)?;
+                let name = hand.name(call.turn)?;
                 Ok(hand.names.get(name).is_some())
             }
-            _ => self.call_text(line, turn),
+            _ => self.call_text(call),
         }
     }
 
     /// Reads a table or a quirks list, or a page by them, or looks a key up.
-    fn call_text(&mut self, line: &str, turn: usize) -> Result<bool, Refusal> {
+    fn call_text(&mut self, call: &Call) -> Result<bool, Refusal> {
         let alloc = self.hand.alloc;
-        match word(line, 0) {
-            "table" => self.table = made::table(alloc, number(line, 3))?,
-            "quirks" => self.quirks = made::quirks(alloc, number(line, 3))?,
-            "key" => return made::has_key(alloc, &self.table, turn),
-            "page" => return page::is_so(alloc, &self.table, &self.quirks, line),
-            "tokens" => {
-                return page::has_tokens(alloc, &self.table, &self.quirks, after(line, 3));
-            }
+        let options = Options::new(&self.table, &self.quirks, Keys::for_tests());
+        match call.word(0) {
+            "table" => self.table = made::table(alloc, call.number(3))?,
+            "quirks" => self.quirks = made::quirks(alloc, call.number(3))?,
+            "key" => return made::has_key(alloc, &self.table, call.turn),
+            "page" => return page::is_so(alloc, &options, call),
+            "tokens" => return page::has_tokens(alloc, &options, call.after(3)),
             _ => return made::has_no_errors(alloc),
         }
         Ok(true)

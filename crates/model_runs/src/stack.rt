@@ -1,24 +1,21 @@
 //! Calls of the stack of open elements.
 
 use crate::hand::{Hand, PLACE};
+use crate::words::Call;
 use hopen::{Group, Open, OpenStack, Scope};
 use names::Refusal;
 
 /// Makes a call. Whether the topmost node is then found, and no heading.
-pub fn call(
-    stack: &mut OpenStack,
-    hand: &mut Hand,
-    call: &str,
-    turn: usize,
-) -> Result<bool, Refusal> {
-    match call {
+pub fn call(stack: &mut OpenStack, hand: &mut Hand, call: &Call) -> Result<bool, Refusal> {
+    let turn = call.turn;
+    match call.word(1) {
         "push" => stack.push(hand.open(turn, turn)?, PLACE)?,
         "pop" => drop(stack.pop()),
         "exchange" => exchange(stack, hand, turn)?,
-        _ => change(stack, hand, call, turn)?,
+        word => change(stack, hand, word, turn)?,
     }
     Ok(match stack.from_top(0) {
-        Some(top) => is_found(stack, top) && is_nearest(stack, top) && has_ends(stack),
+        Some(top) => is_found(stack, top) && has_ends(stack),
         None => stack.len() == 0,
     })
 }
@@ -35,28 +32,26 @@ fn exchange(stack: &mut OpenStack, hand: &mut Hand, turn: usize) -> Result<(), R
 }
 
 /// Changes what is right above the current node.
-fn change(stack: &mut OpenStack, hand: &mut Hand, call: &str, turn: usize) -> Result<(), Refusal> {
+fn change(stack: &mut OpenStack, hand: &mut Hand, word: &str, turn: usize) -> Result<(), Refusal> {
     let number = stack.len().saturating_add(turn);
     let new = hand.open(number, number)?;
     let near = match stack.current() {
         Some(current) => stack.above(current.node).map_or(new.node, |open| open.node),
         None => new.node,
     };
-    match call {
+    match word {
         "replace" => stack.replace(near, new)?,
         _ => stack.remove(near),
     }
     Ok(())
 }
 
-/// What is asked of the topmost node.
+/// What is asked of the topmost node, and of its name, which no other has.
 fn is_found(stack: &OpenStack, top: Open) -> bool {
-    stack.contains(top.node) && stack.above(top.node).is_none() && stack.node_in_scope(top.node)
-}
-
-/// What is asked of its name, which no other has.
-fn is_nearest(stack: &OpenStack, top: Open) -> bool {
-    stack.in_scope(Scope::Table, top.name)
+    stack.contains(top.node)
+        && stack.above(top.node).is_none()
+        && stack.node_in_scope(top.node)
+        && stack.in_scope(Scope::Table, top.name)
         && stack.before_special(top.name)
         && stack.item_is_near(top.name)
         && stack.nearest(top.name).is_some()

@@ -3,22 +3,22 @@
 ghost use Rattle.std.specs.Prelude.{◌<◌};
 
 use crate::hand::{Hand, PLACE};
-use crate::words::{number, word};
+use crate::words::Call;
 use hnodes::{DocumentType, NodeId, Place, Tree};
 use hwrite::{Escaping, serialize_to_vec, tree_text};
 use names::Refusal;
 
 /// Makes a call.
-pub fn call(hand: &mut Hand, line: &str, turn: usize) -> Result<bool, Refusal> {
+pub fn call(hand: &mut Hand, call: &Call) -> Result<bool, Refusal> {
     let last = hand.tree.made() as usize - 1;
-    match word(line, 1) {
-        "new" => hand.tree = Tree::new(hand.alloc, number(line, 3).clamp(1, 1 << 24) as u32)?,
+    match call.word(1) {
+        "new" => hand.tree = Tree::new(hand.alloc, call.number(3).clamp(1, 1 << 24) as u32)?,
         "fill" => return grow(hand, 0),
         "nest" => return grow(hand, last),
-        "element" => make_wide(hand, turn)?,
+        "element" => make_wide(hand, call.turn)?,
         "doctype" => make_doctype(hand)?,
-        "append" | "move" => return Ok(move_nodes(hand, line)),
-        call => return call_of_node(hand, call, turn),
+        "append" | "move" => return Ok(move_nodes(&mut hand.tree, call)),
+        word => return call_of_node(hand, word, call.turn),
     }
     Ok(true)
 }
@@ -54,23 +54,14 @@ fn make_doctype(hand: &mut Hand) -> Result<(), Refusal> {
 }
 
 /// Moves a node, or the children of one. Whether there are such nodes, and it may be.
-fn move_nodes(hand: &mut Hand, line: &str) -> bool {
-    let (node, to) = (number(line, 3), number(line, 4));
-    match (hand.tree.node(node), hand.tree.node(to)) {
-        (Some(node), Some(to)) => is_moved(&mut hand.tree, word(line, 1), node, to),
-        _ => false,
-    }
-}
-
-/// Moves a node, or the children of one, where that is allowed.
-fn is_moved(tree: &mut Tree, call: &str, node: NodeId, to: NodeId) -> bool
-    requires node { node < tree.old.made }
-    requires to { to < tree.old.made }
-{
+fn move_nodes(tree: &mut Tree, call: &Call) -> bool {
+    let (Some(node), Some(to)) = (tree.node(call.number(3)), tree.node(call.number(4))) else {
+        return false;
+    };
     if tree.is_inside(to, node) {
         return false;
     }
-    match call {
+    match call.word(1) {
         "move" => tree.move_children(node, to),
         _ if node != tree.document() => tree.append(node, to),
         _ => return false,
@@ -79,11 +70,11 @@ fn is_moved(tree: &mut Tree, call: &str, node: NodeId, to: NodeId) -> bool
 }
 
 /// Makes a call of node 1, if it is there.
-fn call_of_node(hand: &mut Hand, call: &str, turn: usize) -> Result<bool, Refusal> {
+fn call_of_node(hand: &mut Hand, word: &str, turn: usize) -> Result<bool, Refusal> {
     let Some(node) = hand.tree.node(1) else {
         return Ok(false);
     };
-    match call {
+    match word {
         "attr" => {
             let attr = hand.attr(turn, 1)?;
             hand.tree.add_attr(node, attr)?;
