@@ -1,15 +1,16 @@
 -- How a front of bytes is read, and the bytes after it.
-use Rattle.htext.proofs.Names.{◌≡◌, ℕ, zero, suc, ◌<◌, ◌≤◌, ◌+◌, ◌-◌, Bool, true, false, List, [], ◌∷◌, ◌++◌, length, map, take, drop, sym, refl, ap, ◌∙◌, subst, arith, append_assoc, append-nil, None, Some, Result, Ok, Err, drop_at, take_at, take-take, take-append-le, length-append, length-take-le, take-append-drop, length-drop, drop-drop, take_all, IsUtf8-nil, chars, IsUtf8, utf8_valid_len, utf8_error_len, utf8_invalid_len, placed, Hands, Refusal, Bom, BadBytes, Refuse, Replace, NextBad, Waits, Refused, next_front, IsAhead, inl, inr, AreBad, Policy, Read, Whole, Bad, reads, normalized, ends_in_return, text_of, valid_len, front_len, decoded, settled, refusal_of, reads_at, CharItem, items, bad_each, DecoderHasRead, IsReading, DecodingIsRefusedFrom, IsUndecided, HandsOn, Feeds, sink_refused, took_all}
-use Rattle.std.proofs.lemmas.List.{drop-append-le}
+use Rattle.htext.proofs.Names.{◌≡◌, ℕ, zero, suc, ◌<◌, ◌≤◌, ◌+◌, ◌-◌, Bool, true, false, List, [], ◌∷◌, ◌++◌, length, map, take, drop, sym, refl, ap, ◌∙◌, subst, arith, append_assoc, append-nil, Option, None, Some, Result, Ok, Err, drop_at, take_at, take-take, take-append-le, length-append, length-take-le, take-append-drop, length-drop, drop-drop, IsUtf8-nil, chars, IsUtf8, utf8_valid_len, utf8_error_len, utf8_invalid_len, placed, Hands, Refusal, Bom, BadBytes, Refuse, Replace, NextBad, Waits, Refused, next_front, IsAhead, inl, inr, AreBad, Policy, Read, Whole, Bad, reads, normalized, ends_in_return, text_of, valid_len, front_len, decoded, settled, refusal_of, reads_at, CharItem, items, bad_each, DecoderHasRead, IsReading, DecodingIsRefusedFrom, IsUndecided, HandsOn, Feeds, HasFed, ReadsOn, sink_refused, took_all}
+use Rattle.std.proofs.lemmas.List.{drop-append-le, take_rest}
 use Rattle.htext.specs.Next.{AreReplaced}
-use Rattle.htext.specs.Decoding.{Stops, by_sink, by_bytes}
+use Rattle.names.specs.declared.refusal.Refusal.TheVariants.{Memory}
+use Rattle.htext.specs.Decoding.{DecoderState, Stops, by_sink, by_bytes}
 use Rattle.htext.proofs.Valid.{valid_front, valid_len_le, valid_front_utf8, length-valid_front, valid_len-append}
 use Rattle.htext.proofs.Parts.{reads_nil, reads_of_text, reads_after_bad}
 use Rattle.htext.proofs.Errors.{error_bounds, error_cut}
 use Rattle.htext.proofs.Fronts.{IsFront, front_more, front_is, front_past, front_le, reads_past, cut_none, text_more, part_more, undecided_bad}
 use Rattle.htext.proofs.Texts.{normalized-append, ends_in_return-append, read_past}
 use Rattle.htext.proofs.Refusals.{accepted, replaced}
-use Rattle.htext.proofs.Handing.{HandsOn-append, HandsOn-goes_on}
+use Rattle.htext.proofs.Handing.{HandsOn-append, HandsOn-goes_on, ran_out_after}
 use Rattle.htext.proofs.Stopping.{WhatWaits, WhatIsBad, what_waits, what_is_bad, waits_unread, waits_undecided, refused_from, stuck_by}
 
 abbrev pub policy : Bom → BadBytes → ℕ → Policy
@@ -265,12 +266,6 @@ module _ (bom : Bom) (bad : BadBytes) (limit : ℕ) (all : List ℕ) where
   after_each zero read after_return h are some = absurd (omega (arith, some))
   after_each (suc n) read after_return h are some = one_more read n after_return h are (after_more n (read + 1))
 
--- THE SINK
-
-module _ {S : Type 0} (gives : S → CharItem → Result (Unit {0}) Refusal → S → Type 0) where
-  pub sink_stops : (how : Policy) (before text : List Read) (all : List ℕ) (old : S) (e : Refusal) (new : S) → ((more : List ℕ) → (rest : List Read) × (decoded how (all ++ more) ≡ text ++ rest)) → HandsOn gives before text old (Err e) new → Stops gives how before all old e new
-  sink_stops how before text all old e new on handed = by_sink (λ more. let k = on more in HandsOn-goes_on gives before text (decoded how (all ++ more)) k.0 old e new k.1 handed)
-
 -- NOTHING
 
 module _ (bom : Bom) (bad : BadBytes) (limit : ℕ) where
@@ -298,15 +293,11 @@ nothing_decided bom bad limit refusal stays =
 
 -- ONE TURN OF THE LOOP
 
--- what is left of the bytes
-pub left_is : (count : ℕ) (bytes : List ℕ) → take (length bytes - count) (drop count bytes) ≡ drop count bytes
-left_is count bytes = take_all (length bytes - count) (drop count bytes) (omega (arith, length-drop count bytes))
-
 -- the valid front, as it is found in what fits
 pub text_is : (n count : ℕ) (bytes fit text : List ℕ) → fit ≡ take n (take (length bytes - count) (drop count bytes)) → text ≡ take (utf8_valid_len fit) fit → text ≡ valid_front n (drop count bytes)
 text_is n count bytes fit text e is =
     let left : List ℕ = drop count bytes in
-    is ∙ ap (λ (x : List ℕ). take (utf8_valid_len x) x) (e ∙ ap (take n) (left_is count bytes)) ∙ take-take (valid_len n left) n left (valid_len_le n left).0
+    is ∙ ap (λ (x : List ℕ). take (utf8_valid_len x) x) (e ∙ ap (take n) (take_rest bytes count)) ∙ take-take (valid_len n left) n left (valid_len_le n left).0
 
 -- it is within the bytes, and so is what is found after it
 pub within_all : (n count k : ℕ) (bytes fit text : List ℕ) → fit ≡ take n (take (length bytes - count) (drop count bytes)) → text ≡ take (utf8_valid_len fit) fit → count ≤ length bytes
@@ -314,72 +305,109 @@ pub within_all : (n count k : ℕ) (bytes fit text : List ℕ) → fit ≡ take 
 within_all n count k bytes fit text e is within fits =
     let rest : List ℕ = drop count bytes in
     let short : length text ≤ length rest = omega (arith, ap length (text_is n count bytes fit text e is), length-valid_front n rest, valid_len_le n rest) in
-    omega (arith, fits, within, short, length-drop count bytes, ap length (left_is (count + length text) bytes), length-drop (count + length text) bytes)
+    omega (arith, fits, within, short, length-drop count bytes, ap length (take_rest bytes (count + length text)), length-drop (count + length text) bytes)
 
-pub later : (i j n : ℕ) (xs ys : List ℕ) → drop i xs ≡ drop j ys → drop (i + n) xs ≡ drop (j + n) ys
-later i j n xs ys e = sym (drop-drop n i xs) ∙ ap (drop n) e ∙ drop-drop n j ys
+-- Of the bytes that are left of all, the first `count` were read and handed over.
+pub record HasTurned {S : Type 0} (gives : S → CharItem → Result (Unit {0}) Refusal → S → Type 0) (how : Policy) (before : List Read) (all bytes : List ℕ) (count read : ℕ) (after_return : Bool) (old new : S) : Type 0 where
+  pub reading : IsReading how read after_return all
+  pub handed : HandsOn gives before (text_of how.bom (take read all)) old (Ok tt) new
+  pub left : drop count bytes ≡ drop read all
 
-module _ {S : Type 0} (gives : S → CharItem → Result (Unit {0}) Refusal → S → Type 0) (bom : Bom) (bad : BadBytes) (limit read : ℕ) (after_return : Bool) (all : List ℕ) (before : List Read) (old now : S)
-    (h : IsReading (policy bom bad limit) read after_return all) (so_far : HandsOn gives before (text_of bom (take read all)) old (Ok tt) now) (text : List ℕ) (is : text ≡ valid_front (limit - read) (drop read all)) (new : S) where
-  now_reading : IsReading (policy bom bad limit) (read + length text) (ends_in_return after_return (map Whole (placed read (chars text)))) all
-  now_reading = text_reading bom bad limit read after_return all h text is
+module _ {S : Type 0} (gives : S → CharItem → Result (Unit {0}) Refusal → S → Type 0) (bom : Bom) (bad : BadBytes) (limit : ℕ) (before : List Read) (all bytes : List ℕ) (count read : ℕ) (after_return : Bool) (old now : S)
+    (turned : HasTurned gives (policy bom bad limit) before all bytes count read after_return old now) where
+  -- the next `n` bytes are read as this text
+  abbrev IsNext : ℕ → List Read → Bool → Type 0
+  IsNext n text end = IsReading (policy bom bad limit) (read + n) end all × (text_of bom (take (read + n) all) ≡ text_of bom (take read all) ++ text)
 
-  text_handed : (answer : Result (Unit {0}) Refusal) → Hands gives now (items (normalized bom after_return (map Whole (placed read (chars text))))) answer new → HandsOn gives before (text_of bom (take (read + length text) all)) old answer new
-  text_handed answer handed =
-      HandsOn-append gives before (text_of bom (take read all)) _ old now answer new so_far (_, text_text bom bad limit read after_return all h text is, handed)
+  module _ (n : ℕ) (text : List Read) (end : Bool) (next : IsNext n text end) (new : S) where
+    handed_next : (answer : Result (Unit {0}) Refusal) → Hands gives now (items text) answer new → HandsOn gives before (text_of bom (take (read + n) all)) old answer new
+    handed_next answer handed = HandsOn-append gives before (text_of bom (take read all)) _ old now answer new turned.handed (text, next.1, handed)
 
-  pub text_stops : (e : Refusal) → Hands gives now (items (normalized bom after_return (map Whole (placed read (chars text))))) (Err e) new → Stops gives (policy bom bad limit) before all old e new
-  text_stops e handed = sink_stops gives (policy bom bad limit) before (text_of bom (take (read + length text) all)) all old e new (goes_on_here bom bad limit _ _ all now_reading) (text_handed (Err e) handed)
+    pub turn_stops : (e : Refusal) → Hands gives now (items text) (Err e) new → Stops gives (policy bom bad limit) before all old e new
+    turn_stops e handed = by_sink (λ more. let on = goes_on_here bom bad limit _ _ all next.0 more in HandsOn-goes_on gives before (text_of bom (take (read + n) all)) _ on.0 old e new on.1 (handed_next (Err e) handed))
 
-  module _ (handed : Hands gives now (items (normalized bom after_return (map Whole (placed read (chars text))))) (Ok tt) new) where
-    now_stuck : valid_len (limit - (read + length text)) (drop (read + length text) all) ≡ 0
-    now_stuck = text_stuck bom bad limit read after_return all h text is
+    pub turn_more : Hands gives now (items text) (Ok tt) new → HasTurned gives (policy bom bad limit) before all bytes (count + n) (read + n) end old new
+    turn_more handed = record { reading = next.0; handed = handed_next (Ok tt) handed; left = sym (drop-drop n count bytes) ∙ ap (drop n) turned.left ∙ drop-drop n read all }
 
-    pub refused_stops : (r : Refusal) → next_front bad (drop (read + length text) all) (limit - (read + length text)) (read + length text) ≡ Refused r → Stops gives (policy bom bad limit) before all old r new
+  -- a text is at the front, and none after it
+  module _ (text : List ℕ) (is : text ≡ valid_front (limit - read) (drop count bytes)) where
+    front_text : text ≡ valid_front (limit - read) (drop read all)
+    front_text = is ∙ ap (valid_front (limit - read)) turned.left
+
+    pub next_text : IsNext (length text) (normalized bom after_return (map Whole (placed read (chars text)))) (ends_in_return after_return (map Whole (placed read (chars text))))
+    next_text = (text_reading bom bad limit read after_return all turned.reading text front_text, text_text bom bad limit read after_return all turned.reading text front_text)
+
+    pub stuck_next : valid_len (limit - (read + length text)) (drop (read + length text) all) ≡ 0
+    stuck_next = text_stuck bom bad limit read after_return all turned.reading text front_text
+
+  -- bad parts are
+  pub next_bad : (parts n : ℕ) → IsAhead bad (drop count bytes) (limit - read) read (NextBad parts n) → IsNext n (bad_each read parts) false
+  next_bad parts n is = by (subst (λ (x : List ℕ). IsAhead bad x (limit - read) read (NextBad parts n)) turned.left is)
+    where
+      by : IsAhead bad (drop read all) (limit - read) read (NextBad parts n) → IsNext n (bad_each read parts) false
+      by (inl e) = let (one, w) = what_is_bad bad _ _ _ parts n (sym e) in (bad_reading bom bad limit _ _ all turned.reading n w, rw one (bad_text bom bad limit _ _ all turned.reading n w))
+      by (inr (k, e, some, are)) = (let p : parts ≡ k = cc in let q : n ≡ k = cc in rw (p, q) (after_each bom bad limit all k _ _ turned.reading are some))
+
+  -- what is left is refused, or waits
+  module _ (stuck : valid_len (limit - read) (drop read all) ≡ 0) where
+    pub refused_stops : (r : Refusal) → next_front bad (drop count bytes) (limit - read) read ≡ Refused r → Stops gives (policy bom bad limit) before all old r now
     refused_stops r e =
-        by_bytes (subst (λ (x : List Read). HandsOn gives before x old (Ok tt) new) (sym (settled_here bom bad limit _ _ all now_reading now_stuck r e)) (text_handed (Ok tt) handed))
-        (refused_here bom bad limit _ _ all now_reading now_stuck r e)
+        let is = ap (λ (x : List ℕ). next_front bad x (limit - read) read) (sym turned.left) ∙ e in
+        by_bytes (subst (λ (x : List Read). HandsOn gives before x old (Ok tt) now) (sym (settled_here bom bad limit _ _ all turned.reading stuck r is)) turned.handed) (refused_here bom bad limit _ _ all turned.reading stuck r is)
 
-    pub waits_now : next_front bad (drop (read + length text) all) (limit - (read + length text)) (read + length text) ≡ Waits
-        → HandsOn gives before (settled (policy bom bad limit) all) old (Ok tt) new × DecoderHasRead (policy bom bad limit) (read + length text) (ends_in_return after_return (map Whole (placed read (chars text)))) all × IsUndecided (policy bom bad limit) all
+    pub waits_now : next_front bad (drop count bytes) (limit - read) read ≡ Waits
+        → HandsOn gives before (settled (policy bom bad limit) all) old (Ok tt) now × DecoderHasRead (policy bom bad limit) read after_return all × (drop count bytes ≡ drop read all) × IsUndecided (policy bom bad limit) all
     waits_now e =
-        let w = what_waits bad _ _ _ e in
-        let unread = unread_here bom bad limit _ _ all now_reading now_stuck w in (
-          subst (λ (x : List Read). HandsOn gives before x old (Ok tt) new) (sym (settled_text bom bad limit _ _ all now_reading unread)) (text_handed (Ok tt) handed),
-          has_read bom bad limit _ _ all now_reading unread,
-          undecided_here bom bad limit _ _ all now_reading now_stuck w,
+        let w = what_waits bad _ _ _ (ap (λ (x : List ℕ). next_front bad x (limit - read) read) (sym turned.left) ∙ e) in
+        let unread = unread_here bom bad limit _ _ all turned.reading stuck w in (
+          subst (λ (x : List Read). HandsOn gives before x old (Ok tt) now) (sym (settled_text bom bad limit _ _ all turned.reading unread)) turned.handed,
+          has_read bom bad limit _ _ all turned.reading unread,
+          turned.left,
+          undecided_here bom bad limit _ _ all turned.reading stuck w,
         )
-
-    -- bad parts are replaced next
-    abbrev IsBadAfter : ℕ → List Read → Type 0
-    IsBadAfter n parts = IsReading (policy bom bad limit) (read + length text + n) false all × (text_of bom (take (read + length text + n) all) ≡ text_of bom (take (read + length text) all) ++ parts)
-
-    pub bad_after : (parts n : ℕ) → IsAhead bad (drop (read + length text) all) (limit - (read + length text)) (read + length text) (NextBad parts n) → IsBadAfter n (bad_each (read + length text) parts)
-    bad_after parts n (inl e) =
-        let (one, w) = what_is_bad bad _ _ _ parts n (sym e) in
-        subst (λ (k : ℕ). IsBadAfter n (bad_each (read + length text) k)) (sym one) (bad_reading bom bad limit _ _ all now_reading n w, bad_text bom bad limit _ _ all now_reading n w)
-    bad_after parts n (inr (k, e, some, are)) =
-        let p : k ≡ parts = cc in
-        let q : k ≡ n = cc in
-        subst (λ (x : ℕ). IsBadAfter x (bad_each (read + length text) parts)) q (subst (λ (x : ℕ). IsBadAfter k (bad_each (read + length text) x)) p (after_each bom bad limit all k _ _ now_reading are some))
-
-    module _ (n : ℕ) (parts : List Read) (is_after : IsBadAfter n parts) (last : S) where
-      pub bad_handed : (answer : Result (Unit {0}) Refusal) → Hands gives new (items parts) answer last → HandsOn gives before (text_of bom (take (read + length text + n) all)) old answer last
-      bad_handed answer handed_bad = HandsOn-append gives before (text_of bom (take (read + length text) all)) _ old new answer last (text_handed (Ok tt) handed) (parts, is_after.1, handed_bad)
-
-      pub bad_stops : (r : Refusal) → Hands gives new (items parts) (Err r) last → Stops gives (policy bom bad limit) before all old r last
-      bad_stops r handed_bad = sink_stops gives (policy bom bad limit) before (text_of bom (take (read + length text + n) all)) all old r last (goes_on_here bom bad limit _ _ all is_after.0) (bad_handed (Err r) handed_bad)
 
 -- ONE PIECE MORE
 
-module _ (bom : Bom) (bad : BadBytes) (limit read : ℕ) (after_return : Bool) (fed piece joined left : List ℕ) (h : DecoderHasRead (policy bom bad limit) read after_return fed) (l : left ≡ drop read fed) (j : joined ≡ left ++ piece) where
-  pub joined_is : joined ≡ drop read (fed ++ piece)
-  joined_is = j ∙ ap (λ (x : List ℕ). x ++ piece) l ∙ sym (left_on bom bad limit read after_return fed piece h)
+-- A decoder holds what is left of the bytes that were read, and joins the piece to it.
+module _ {S : Type 0} (gives : S → CharItem → Result (Unit {0}) Refusal → S → Type 0) (bom : Bom) (bad : BadBytes) (limit read : ℕ) (after_return : Bool) (left : List ℕ) (refused : Option Refusal)
+    (piece joined : List ℕ) (j : joined ≡ left ++ piece) (old new : S) where
+  abbrev decoder : ℕ → Bool → List ℕ → DecoderState
+  decoder read after_return left = record { how = policy bom bad limit; read = read; after_return = after_return; undecoded = left; refused = refused }
 
-  module _ {S : Type 0} (gives : S → CharItem → Result (Unit {0}) Refusal → S → Type 0) (old new : S) where
-    pub piece_handed : (text : List Read) (answer : Result (Unit {0}) Refusal) → HandsOn gives (text_of bom (take read (fed ++ piece))) text old answer new → HandsOn gives (settled (policy bom bad limit) fed) text old answer new
-    piece_handed text answer handed = subst (λ (x : List Read). HandsOn gives x text old answer new) (text_on bom bad limit read after_return fed piece h) handed
+  -- what is done with all bytes of which those joined are left
+  abbrev OfJoined : (List ℕ → Type 0) → Type 0
+  OfJoined P = (all : List ℕ) → IsReading (policy bom bad limit) read after_return all → joined ≡ drop read all → P all
 
-    pub piece_stops : (e : Refusal) → Stops gives (policy bom bad limit) (text_of bom (take read (fed ++ piece))) (fed ++ piece) old e new → Feeds gives (policy bom bad limit) fed piece old (Err e) new
-    piece_stops e (by_sink refused) = sink_refused e refl (λ more. piece_handed _ (Err e) (refused more))
-    piece_stops e (by_bytes handed refused) = took_all (piece_handed _ (Ok tt) handed) refused
+  of_fed : (P : List ℕ → Type 0) → OfJoined P → (fed : List ℕ) → HasFed (decoder read after_return left) fed → P (fed ++ piece)
+  of_fed P done fed h =
+      done (fed ++ piece) (reading_on bom bad limit read after_return fed piece h.front)
+      (j ∙ ap (λ (x : List ℕ). x ++ piece) h.undecoded ∙ sym (left_on bom bad limit read after_return fed piece h.front))
+
+  handed_on : (text : List Read) (answer : Result (Unit {0}) Refusal) (fed : List ℕ) → HasFed (decoder read after_return left) fed
+      → HandsOn gives (text_of bom (take read (fed ++ piece))) text old answer new → HandsOn gives (settled (policy bom bad limit) fed) text old answer new
+  handed_on text answer fed h handed = subst (λ (x : List Read). HandsOn gives x text old answer new) (text_on bom bad limit read after_return fed piece h.front) handed
+
+  abbrev StopsAt : Refusal → List ℕ → Type 0
+  StopsAt e all = Stops gives (policy bom bad limit) (text_of bom (take read all)) all old e new
+
+  stops_feeding : (e : Refusal) (fed : List ℕ) → HasFed (decoder read after_return left) fed → StopsAt e (fed ++ piece) → Feeds gives (policy bom bad limit) fed piece old (Err e) new
+  stops_feeding e fed h (by_sink stops) = sink_refused e refl (λ more. handed_on _ (Err e) fed h (stops more))
+  stops_feeding e fed h (by_bytes handed stays) = took_all (handed_on _ (Ok tt) fed h handed) stays
+
+  pub piece_stops : (e : Refusal) (after : DecoderState) → after.how ≡ policy bom bad limit → OfJoined (StopsAt e) → ReadsOn gives (decoder read after_return left) piece old (Err e) after new
+  piece_stops e after same stops = record { feeds = λ fed h. stops_feeding e fed h (of_fed (StopsAt e) stops fed h); fed = tt; how = same }
+
+  -- all was read that is read whatever follows
+  module _ (count next : ℕ) (end : Bool) where
+    abbrev IsTaken : List ℕ → Type 0
+    IsTaken all = HandsOn gives (text_of bom (take read all)) (settled (policy bom bad limit) all) old (Ok tt) new × DecoderHasRead (policy bom bad limit) next end all × (drop count joined ≡ drop next all) × IsUndecided (policy bom bad limit) all
+
+    pub piece_taken : (rest : List ℕ) → rest ≡ drop count joined → length rest ≤ 3 → OfJoined IsTaken → ReadsOn gives (decoder read after_return left) piece old (Ok tt) (decoder next end rest) new
+    piece_taken rest is few taken = record {
+      feeds = λ fed h. took_all (handed_on _ (Ok tt) fed h (of_fed IsTaken taken fed h).0) tt;
+      fed = λ fed h. let now = of_fed IsTaken taken fed h in record { front = now.1; undecoded = is ∙ now.2; few = few; undecided = now.3; accepts = h.accepts };
+      how = refl;
+    }
+
+    pub piece_lost : (after : DecoderState) → after.how ≡ policy bom bad limit → OfJoined IsTaken → ReadsOn gives (decoder read after_return left) piece old (Err Memory) after new
+    piece_lost after same taken = record { feeds = λ fed h. ran_out_after gives (policy bom bad limit) fed piece old new (handed_on _ (Ok tt) fed h (of_fed IsTaken taken fed h).0); fed = tt; how = same }

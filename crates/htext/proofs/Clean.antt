@@ -1,6 +1,7 @@
 -- Where a text is cut by the count of bytes that pass a test.
 use Rattle.htext.proofs.Names.{◌≡◌, ℕ, ◌≤◌, ◌+◌, ◌-◌, zero, suc, Bool, true, false, cond, List, [], ◌∷◌, ◌++◌, length, take, drop, sym, refl, ap, ◌∙◌, subst, arith, inl, inr, encode_utf8_all, list_all, prefix_len, and_parts, and_from, cases_lt, nat_tests, take_at, drop_at, take-append-drop, length-append, length-drop, drop-drop, append-nil, take-add, chars-append, chars_past_char, length-encode, len_utf8, list_all-append, chars-nil, encode_ascii, IsUtf8-nil, scalars, chars, IsUtf8, encode_utf8, is_plain_character, is_clean, is_of_clean_bytes, is_clean_byte, is_text_byte, IsCut, IsCleanFront}
 use Rattle.std.proofs.lemmas.Str.{chars-encodes, encodes-append}
+use Rattle.htext.proofs.Beginnings.{bytes_of}
 use Rattle.htext.proofs.Plain.{BeginsOutside, of_clean_bytes, clean_bytes, other_bytes, long_bytes, plain_of_text}
 use Rattle.htext.proofs.Runs.{counted}
 use Rattle.names.proofs.Words.{all_weaker}
@@ -60,7 +61,7 @@ module _ (test byte_test : ℕ → Bool) (inside : (c : ℕ) → test c ≡ true
 
 pub clean_front : (bytes : List ℕ) → IsUtf8 bytes → IsCleanFront (prefix_len is_clean_byte bytes) bytes
 clean_front bytes u =
-    let (cut, clean) = front is_of_clean_bytes is_clean_byte clean_bytes other_bytes bytes u in
+    let (cut, clean) = front is_of_clean_bytes is_clean_byte (λ c h. clean_bytes c (encode_utf8 c) h (bytes_of c)) (λ c h. other_bytes c (encode_utf8 c) h (bytes_of c)) bytes u in
     record { cut = cut; clean = all_weaker is_of_clean_bytes is_clean of_clean_bytes (chars (take (prefix_len is_clean_byte bytes) bytes)) clean }
 
 -- one after another
@@ -127,7 +128,7 @@ both_pass first second third joined (c ∷ cs) f s = grind (arith, joined c, bot
 -- a test that all bytes of characters outside ASCII pass
 module _ (test : ℕ → Bool) (of_long : (byte : ℕ) → 128 ≤ byte → test byte ≡ true) where
   all_bytes : (c : ℕ) → test c ≡ true → list_all test (encode_utf8 c) ≡ true
-  all_bytes c h = elim (cases_lt c 128) [ inl one ↦ ap (list_all test) (encode_ascii c one) ∙ and_from _ _ h refl | inr above ↦ long_bytes test of_long c above ]
+  all_bytes c h = elim (cases_lt c 128) [ inl one ↦ ap (list_all test) (encode_ascii c one) ∙ and_from _ _ h refl | inr above ↦ long_bytes test of_long c (encode_utf8 c) above (bytes_of c) ]
 
   first_fails : (c : ℕ) → test c ≡ false → BeginsOutside test (encode_utf8 c)
   first_fails c h = elim (cases_lt c 128) [

@@ -1,12 +1,13 @@
 -- How items are handed to a sink.
-use Rattle.htext.proofs.Names.{◌≡◌, ℕ, suc, ◌+◌, ◌-◌, ◌<◌, Bool, eqb, List, [], ◌∷◌, ◌++◌, sym, refl, ap, ◌∙◌, subst, Result, Ok, Err, append_assoc, append-nil, map, true, false, length, arith, length-append, nil_from_length, chars_past_char, chars-nil, chars, IsUtf8, encode_utf8, len_utf8, placed, Hands, Continues, Refusal, Bom, Policy, Read, Whole, Bad, read_as, normalized, refusal_of, decoded, settled, CharItem, Character, InputError, items, bad_each, HandsOn, Feeds, DecodingIsRefusedFrom, sink_refused, took_all}
+use Rattle.htext.proofs.Names.{◌≡◌, ℕ, suc, ◌+◌, ◌-◌, ◌<◌, Bool, eqb, List, [], ◌∷◌, ◌++◌, sym, refl, ap, ◌∙◌, subst, Result, Ok, Err, append_assoc, append-nil, map, true, false, length, arith, length-append, nil_from_length, chars_past_char, chars-nil, chars, IsUtf8, encode_utf8, len_utf8, placed, Hands, Continues, Refusal, Bom, Policy, Read, Whole, Bad, read_as, normalized, refusal_of, decoded, settled, CharItem, Character, InputError, items, bad_each, HandsOn, Feeds, HasFed, ReadsOn, DecodingIsRefusedFrom, sink_refused, took_all}
 use Rattle.std.proofs.Common.{MatchResult}
 use Rattle.std.specs.Prelude.{⊤}
 use Rattle.names.specs.Placed.{error}
 use Rattle.names.specs.declared.error.ErrorCode.TheVariants.{ReplacedBytes}
 use Rattle.names.proofs.Handing.{Hands-append}
 use Rattle.names.specs.declared.refusal.Refusal.TheVariants.{Memory}
-use Rattle.htext.specs.Decoding.{ran_out}
+use Rattle.std.proofs.lemmas.Result.{on_ok_weaker}
+use Rattle.htext.specs.Decoding.{DecoderState, ran_out}
 use Rattle.htext.proofs.Texts.{items-append, goes_on}
 
 -- where the sink refused, whatever would have come after
@@ -91,6 +92,20 @@ module _ {S : Type 0} (gives : S → CharItem → Result (Unit {0}) Refusal → 
     handed_all fed piece old new (ran_out front rest is split took) = absurd cc
     handed_all fed piece old new (sink_refused e is refused) = absurd cc
     handed_all fed piece old new (took_all took answered) = took
+
+-- A DECODER THAT READS ON
+
+module _ {S : Type 0} (gives : S → CharItem → Result (Unit {0}) Refusal → S → Type 0) where
+  pub reads_append : (before middle after : DecoderState) (first second : List ℕ) (old between new : S) (answer : Result (Unit {0}) Refusal)
+      → ReadsOn gives before first old (Ok tt) middle between → ReadsOn gives middle second between answer after new → ReadsOn gives before (first ++ second) old answer after new
+  reads_append before middle after first second old between new answer one two = record {
+    feeds = λ fed h. Feeds-append gives before.how fed first second old between answer new (handed_all gives before.how fed first old between (one.feeds fed h)) (rw (one.how) at (two.feeds (fed ++ first) (one.fed fed h)));
+    fed = on_ok_weaker answer (λ on fed h. subst (HasFed after) (append_assoc fed first second) (on (fed ++ first) (one.fed fed h))) two.fed;
+    how = two.how ∙ one.how;
+  }
+
+  pub reads_more : (before after : DecoderState) (piece rest : List ℕ) (old new : S) (e : Refusal) → ReadsOn gives before piece old (Err e) after new → ReadsOn gives before (piece ++ rest) old (Err e) after new
+  reads_more before after piece rest old new e one = record { feeds = λ fed h. Feeds-more gives before.how fed piece old e new (one.feeds fed h) rest; fed = tt; how = one.how }
 
 -- A loop that hands over the characters of bytes, one by one: `bytes` are left, at the place `at`.
 module _ {S : Type 0} (gives : S → CharItem → Result (Unit {0}) Refusal → S → Type 0) (bom : Bom) (old : S) (all : List CharItem) (now : S) (after_return : Bool) (at : ℕ) (bytes : List ℕ)

@@ -1,5 +1,5 @@
 -- The names of other crates and of specs/ that several proofs cite, in one place.
-pub use Rattle.htext.specs.Decoding.{DecoderHasRead, IsReading, DecodingIsRefusedFrom, IsUndecided, HandsOn, Feeds, sink_refused, took_all, HasFed}
+pub use Rattle.htext.specs.Decoding.{DecoderHasRead, IsReading, DecodingIsRefusedFrom, IsUndecided, HandsOn, Feeds, sink_refused, took_all, HasFed, ReadsOn}
 pub use Rattle.htext.specs.Items.{CharItem, items, bad_each, Character, InputError, read_items}
 pub use Rattle.htext.specs.Next.{next_front, AreBad, IsAhead, IsBadAlone}
 pub use Rattle.htext.specs.Run.{is_plain_byte, is_plain_character, is_clean, is_of_clean_bytes, is_clean_byte, is_text_byte, IsCut, IsCleanFront, run_items, is_not_of, is_run_byte, shares_no_bit}

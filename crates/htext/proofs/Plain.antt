@@ -1,6 +1,6 @@
 -- Plain and clean characters, and the bytes of characters in UTF-8.
-use Rattle.htext.proofs.Names.{◌≡◌, ℕ, ◌<◌, ◌≤◌, ◌+◌, ◌/◌, ◌%◌, Bool, true, false, eqb, List, [], ◌∷◌, refl, arith, list_all, nat_tests, encode_utf8, Bom, Whole, read_as, Character, read_items, is_plain_byte, is_plain_character, is_clean, is_of_clean_bytes, is_clean_byte, is_text_byte}
-use Rattle.htext.proofs.Beginnings.{BytesOf, takes_one, takes_two, takes_three, takes_four, bytes_of}
+use Rattle.htext.proofs.Names.{◌≡◌, ℕ, ◌<◌, ◌≤◌, ◌+◌, ◌/◌, ◌%◌, Bool, true, false, eqb, List, [], ◌∷◌, refl, arith, list_all, nat_tests, Bom, Whole, read_as, Character, read_items, is_plain_byte, is_plain_character, is_clean, is_of_clean_bytes, is_clean_byte, is_text_byte}
+use Rattle.htext.proofs.Beginnings.{BytesOf, takes_one, takes_two, takes_three, takes_four}
 
 -- a plain byte is ASCII, and a plain character
 pub plain_small : (x : ℕ) → is_plain_byte x ≡ true → x < 127
@@ -29,51 +29,39 @@ high : (c : ℕ) → 128 ≤ c → is_of_clean_bytes c ≡ true → (192 ≤ c) 
 high c l h = (grind (arith, nat_tests), grind (arith, nat_tests))
 
 -- the bytes of such a character are clean
-clean_by : (c : ℕ) (bytes : List ℕ) → is_of_clean_bytes c ≡ true → BytesOf c bytes → list_all is_clean_byte bytes ≡ true
-clean_by c _ h (takes_one a) = grind (arith, nat_tests)
-clean_by c _ h (takes_two a b) = grind (arith, nat_tests)
-clean_by c _ h (takes_three a b) = let is = high c (omega arith) h in grind (arith, nat_tests, is.1)
-clean_by c _ h (takes_four a) = absurd (omega (arith, high c (omega arith) h))
-
-pub clean_bytes : (c : ℕ) → is_of_clean_bytes c ≡ true → list_all is_clean_byte (encode_utf8 c) ≡ true
-clean_bytes c h = clean_by c (encode_utf8 c) h (bytes_of c)
+pub clean_bytes : (c : ℕ) (bytes : List ℕ) → is_of_clean_bytes c ≡ true → BytesOf c bytes → list_all is_clean_byte bytes ≡ true
+clean_bytes c _ h (takes_one a) = grind (arith, nat_tests)
+clean_bytes c _ h (takes_two a b) = grind (arith, nat_tests)
+clean_bytes c _ h (takes_three a b) = let is = high c (omega arith) h in grind (arith, nat_tests, is.1)
+clean_bytes c _ h (takes_four a) = absurd (omega (arith, high c (omega arith) h))
 
 -- the first byte of another one is not
 abbrev pub BeginsOutside : (ℕ → Bool) → List ℕ → Type 0
 BeginsOutside test bytes = (b : ℕ) × (bs : List ℕ) × (bytes ≡ b ∷ bs) × (test b ≡ false)
 
-other_by : (c : ℕ) (bytes : List ℕ) → is_of_clean_bytes c ≡ false → BytesOf c bytes → BeginsOutside is_clean_byte bytes
-other_by c _ h (takes_one a) = (_, _, refl, grind (arith, nat_tests))
-other_by c _ h (takes_two a b) = (_, _, refl, grind (arith, nat_tests))
-other_by c _ h (takes_three a b) = (_, _, refl, grind (arith, nat_tests))
-other_by c _ h (takes_four a) = (_, _, refl, grind (arith, nat_tests))
-
-pub other_bytes : (c : ℕ) → is_of_clean_bytes c ≡ false → BeginsOutside is_clean_byte (encode_utf8 c)
-other_bytes c h = other_by c (encode_utf8 c) h (bytes_of c)
+pub other_bytes : (c : ℕ) (bytes : List ℕ) → is_of_clean_bytes c ≡ false → BytesOf c bytes → BeginsOutside is_clean_byte bytes
+other_bytes c _ h (takes_one a) = (_, _, refl, grind (arith, nat_tests))
+other_bytes c _ h (takes_two a b) = (_, _, refl, grind (arith, nat_tests))
+other_bytes c _ h (takes_three a b) = (_, _, refl, grind (arith, nat_tests))
+other_bytes c _ h (takes_four a) = (_, _, refl, grind (arith, nat_tests))
 
 -- the bytes of a character that is not in ASCII are not either
 module _ (test : ℕ → Bool) (passes : (b : ℕ) → 128 ≤ b → test b ≡ true) where
   next_passes : (n : ℕ) → test (128 + n % 64) ≡ true
   next_passes n = passes (128 + n % 64) (omega arith)
 
-  long_by : (c : ℕ) (bytes : List ℕ) → 128 ≤ c → BytesOf c bytes → list_all test bytes ≡ true
-  long_by c _ l (takes_one a) = absurd (omega (arith, l, a))
-  long_by c _ l (takes_two a b) = rw (passes (192 + c / 64) (omega arith), next_passes c) refl
-  long_by c _ l (takes_three a b) = rw (passes (224 + c / 4096) (omega arith), next_passes (c / 64), next_passes c) refl
-  long_by c _ l (takes_four a) = rw (passes (240 + c / 262144) (omega arith), next_passes (c / 4096), next_passes (c / 64), next_passes c) refl
-
-  pub long_bytes : (c : ℕ) → 128 ≤ c → list_all test (encode_utf8 c) ≡ true
-  long_bytes c l = long_by c (encode_utf8 c) l (bytes_of c)
+  pub long_bytes : (c : ℕ) (bytes : List ℕ) → 128 ≤ c → BytesOf c bytes → list_all test bytes ≡ true
+  long_bytes c _ l (takes_one a) = absurd (omega (arith, l, a))
+  long_bytes c _ l (takes_two a b) = rw (passes (192 + c / 64) (omega arith), next_passes c) refl
+  long_bytes c _ l (takes_three a b) = rw (passes (224 + c / 4096) (omega arith), next_passes (c / 64), next_passes c) refl
+  long_bytes c _ l (takes_four a) = rw (passes (240 + c / 262144) (omega arith), next_passes (c / 4096), next_passes (c / 64), next_passes c) refl
 
 -- the first byte of a character is no other byte of one
 abbrev pub BeginsAnew : List ℕ → Type 0
 BeginsAnew bytes = (b : ℕ) × (bs : List ℕ) × (bytes ≡ b ∷ bs) × (128 ≤ b → 192 ≤ b)
 
-anew_by : (c : ℕ) (bytes : List ℕ) → BytesOf c bytes → BeginsAnew bytes
-anew_by c _ (takes_one a) = (_, _, refl, λ l. absurd (omega (arith, l, a)))
-anew_by c _ (takes_two a b) = (_, _, refl, λ l. omega arith)
-anew_by c _ (takes_three a b) = (_, _, refl, λ l. omega arith)
-anew_by c _ (takes_four a) = (_, _, refl, λ l. omega arith)
-
-pub begins_anew : (c : ℕ) → BeginsAnew (encode_utf8 c)
-begins_anew c = anew_by c (encode_utf8 c) (bytes_of c)
+pub begins_anew : (c : ℕ) (bytes : List ℕ) → BytesOf c bytes → BeginsAnew bytes
+begins_anew c _ (takes_one a) = (_, _, refl, λ l. absurd (omega (arith, l, a)))
+begins_anew c _ (takes_two a b) = (_, _, refl, λ l. omega arith)
+begins_anew c _ (takes_three a b) = (_, _, refl, λ l. omega arith)
+begins_anew c _ (takes_four a) = (_, _, refl, λ l. omega arith)

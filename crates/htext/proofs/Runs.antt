@@ -41,8 +41,5 @@ all_placed test at (x ∷ xs) h = grind (arith, all_placed test (at + len_utf8 x
 pub placed-append : (at : ℕ) (xs ys : List ℕ) → list_all is_plain_byte xs ≡ true → placed at (xs ++ ys) ≡ placed at xs ++ placed (at + length xs) ys
 placed-append at xs ys h = placed_text at xs ys ∙ ap (λ (n : ℕ). placed at xs ++ placed (at + n) ys) (ap length (plain_bytes xs h))
 
-plain_parts : (n : ℕ) (xs : List ℕ) → list_all is_plain_byte xs ≡ true → (list_all is_plain_byte (take n xs) ≡ true) × (list_all is_plain_byte (drop n xs) ≡ true)
-plain_parts n xs h = and_parts _ _ (sym (list_all-append is_plain_byte (take n xs) (drop n xs)) ∙ ap (list_all is_plain_byte) (take-append-drop n xs) ∙ h)
-
 pub plain_take : (n : ℕ) (xs : List ℕ) → list_all is_plain_byte xs ≡ true → list_all is_plain_byte (take n xs) ≡ true
-plain_take n xs h = (plain_parts n xs h).0
+plain_take n xs h = (and_parts _ (list_all is_plain_byte (drop n xs)) (sym (list_all-append is_plain_byte (take n xs) (drop n xs)) ∙ ap (list_all is_plain_byte) (take-append-drop n xs) ∙ h)).0

@@ -6,6 +6,7 @@ use Rattle.std.specs.Str.{IsCharBoundary}
 use Rattle.names.proofs.Handing.{Continues-more}
 use Rattle.htext.proofs.Handing.{Hands-front}
 use Rattle.htext.proofs.Parts.{placed-append}
+use Rattle.htext.proofs.Beginnings.{bytes_of}
 use Rattle.htext.proofs.Plain.{no_return, as_it_came, item_alone, begins_anew}
 
 -- WHAT STANDS IN A TEXT
@@ -68,7 +69,7 @@ module _ (bytes : List ℕ) (u : IsUtf8 bytes) (c : ℕ) (cs : List ℕ) (is : c
 -- and the last one, which begins after `n` bytes
 pub cut_last : (bytes xs : List ℕ) (c n : ℕ) → IsUtf8 bytes → bytes ≡ xs ++ encode_utf8 c → n ≡ length xs → IsCut n bytes
 cut_last bytes xs c n u is here =
-    let (b, bs, first, anew) = begins_anew c in
+    let (b, bs, first, anew) = begins_anew c (encode_utf8 c) (bytes_of c) in
     let e : bytes ≡ xs ++ b ∷ bs = is ∙ ap (λ (l : List ℕ). xs ++ l) first in
     let within : n ≤ length bytes = omega (arith, here, ap length e, length-append xs (b ∷ bs)) in
     let lead : get_or bytes n 0 ≡ b = ap (λ (l : List ℕ). get_or l n 0) e ∙ ap (λ (k : ℕ). get_or (xs ++ b ∷ bs) k 0) here ∙ get_or-append_seam xs b bs 0 in

@@ -1,9 +1,9 @@
 -- What a decoder has been fed, and what a call of it does.
-use Rattle.std.specs.Prelude.{◌≡◌, ℕ, ◌≤◌, Bool, false, List, ◌++◌, length, take, drop, Option, None, Some, Result, Ok, Err, MatchResult, ⊤}
+use Rattle.std.specs.Prelude.{◌≡◌, ℕ, ◌≤◌, Bool, false, List, ◌++◌, length, take, drop, Option, None, Some, Result, Ok, Err, OnOk, MatchResult, ⊤}
 use Rattle.names.specs.Sink.{Hands}
 use Rattle.names.specs.declared.refusal.Refusal.{Refusal}
 use Rattle.names.specs.declared.refusal.Refusal.TheVariants.{Memory}
-use Rattle.htext.specs.Text.{Policy, Read, reads, front_len, settled_len, ends_in_return, refusal_of, DecodingStaysRefused, decoded, settled}
+use Rattle.htext.specs.Text.{Policy, Read, reads, front_len, settled_len, ends_in_return, refusal_of, DecodingStaysRefused, decoded, settled, text as text_of}
 use Rattle.htext.specs.Items.{CharItem, items}
 
 -- what contracts see of a decoder
@@ -63,6 +63,13 @@ pub data Feeds {S : Type 0} (gives : S → CharItem → Result (Unit {0}) Refusa
       → MatchResult answer (λ _. ⊤) (DecodingIsRefusedFrom how (fed ++ piece))
       → Feeds gives how fed piece old answer new
 
+-- What reading a piece on does with a decoder that has refused nothing; a refusal is for the caller to keep.
+pub record ReadsOn {S : Type 0} (gives : S → CharItem → Result (Unit {0}) Refusal → S → Type 0) (before : DecoderState)
+    (piece : List ℕ) (old : S) (answer : Result (Unit {0}) Refusal) (after : DecoderState) (new : S) : Type 0 where
+  pub feeds : (fed : List ℕ) → HasFed before fed → Feeds gives before.how fed piece old answer new
+  pub fed : OnOk answer ((fed : List ℕ) → HasFed before fed → HasFed after (fed ++ piece))
+  pub how : after.how ≡ before.how
+
 -- How reading the bytes stops with an error, after a sink was handed `before`: the sink refused an item, whatever comes after the
 -- bytes; or it took all that is read whatever follows, and the error holds whatever comes after.
 pub data Stops {S : Type 0} (gives : S → CharItem → Result (Unit {0}) Refusal → S → Type 0) (how : Policy)
@@ -71,6 +78,16 @@ pub data Stops {S : Type 0} (gives : S → CharItem → Result (Unit {0}) Refusa
       → Stops gives how before bytes old e new
   by_bytes : HandsOn gives before (settled how bytes) old (Ok tt) new → DecodingIsRefusedFrom how bytes e
       → Stops gives how before bytes old e new
+
+-- What reading on does with bytes that are left of all, of which `read` were read: all are read that are whatever follows, up to `next`.
+abbrev pub Advances : {S : Type 0} → (S → CharItem → Result (Unit {0}) Refusal → S → Type 0) → Policy → ℕ → List ℕ → List ℕ
+    → S → Result ℕ Refusal → ℕ → Bool → S → Type 0
+Advances gives how read all bytes old answer next after_return new =
+    let before = text_of how.bom (take read all) in
+    MatchResult answer
+    (λ count. HandsOn gives before (settled how all) old (Ok tt) new × DecoderHasRead how next after_return all
+    × (drop count bytes ≡ drop next all) × IsUndecided how all)
+    (λ e. Stops gives how before all old e new)
 
 -- what is answered where nothing more comes
 abbrev pub answer_at_end : Option Refusal → Result (Unit {0}) Refusal

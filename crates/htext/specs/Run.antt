@@ -6,7 +6,7 @@ use Rattle.names.specs.Placed.{placed, is_alphanumeric, is_noncharacter, is_quot
 use Rattle.htext.specs.Items.{CharItem, Character}
 use Rattle.htext.specs.declared.run.Halves.{Halves}
 use Rattle.htext.specs.declared.run.RunBytes.{RunBytes}
-use Rattle.htext.specs.declared.run.RunBytes.TheVariants.{Text, Clean, Alphanumeric, Word, Unquoted, Quoted}
+use Rattle.htext.specs.declared.run.RunBytes.TheVariants.{Clean, Alphanumeric, Word, Unquoted, Quoted}
 
 -- a byte that is a character by itself, is in the text as it came but for an LF after a CR, raises no error, and is neither `<` nor `&`
 abbrev pub is_plain_byte : ℕ → Bool
@@ -46,7 +46,6 @@ is_quoted_byte mark byte = not (byte == mark || byte == 38)
 
 -- the bytes of a run of each kind
 abbrev pub is_run_byte : RunBytes → ℕ → Bool
-is_run_byte Text byte = is_text_byte byte
 is_run_byte Clean byte = is_clean_byte byte
 is_run_byte Alphanumeric byte = is_alphanumeric byte
 is_run_byte Word byte = is_word_byte byte

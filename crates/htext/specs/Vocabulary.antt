@@ -1,5 +1,5 @@
 -- The words of the contracts, in one place.
-pub use Rattle.htext.specs.Decoding.{EndsDecoding, Feeds, HasFed, DecoderHasRead, HandsOn, IsReading, IsUndecided, Stops}
+pub use Rattle.htext.specs.Decoding.{Advances, EndsDecoding, Feeds, HasFed, DecoderHasRead, HandsOn, IsReading, IsUndecided, ReadsOn, Stops}
 pub use Rattle.htext.specs.Items.{CharItem, Character, InputError, items, read_items, bad_each, characters_among, errors_among, input_errors}
 pub use Rattle.htext.specs.Next.{next_front, AreBad, IsAhead, IsBadAlone}
 pub use Rattle.htext.specs.Run.{is_run_byte, is_not_of, is_quoted_byte, is_text_byte, is_word_byte, is_unquoted_byte, is_clean, run_items, shares_no_bit, IsCleanFront}

@@ -10,7 +10,6 @@ use names::{ErrorCode, ParseError, Refusal, is_noncharacter};
 
 const BYTE_ORDER_MARK: char = '\u{FEFF}';
 
-/// Whether a character is in the text as it came, unless it is an LF after a CR, and raises no error.
 #[inline(always)]
 pub(crate) fn is_clean(ch: char) -> bool
     ensures { result ≡ is_clean ch }
@@ -45,7 +44,6 @@ pub(crate) fn hand_char<S: CharSink>(
     }
 }
 
-/// Hands over a character of the text, after its errors.
 #[inline(never)]
 fn hand_read<S: CharSink>(ch: char, at: u64, sink: &mut S) -> Result<(), Refusal>
     requires { at < MAX_INPUT }

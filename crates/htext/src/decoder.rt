@@ -1,7 +1,7 @@
 //! Bytes in any pieces, read as UTF-8 up to a limit.
 
 ghost use Rattle.std.specs.Prelude.{◌≡◌, ◌≤◌, ℕ, List, [], ◌∷◌, ◌++◌, length, drop, None, Some, Ok, Err, OnOk, IfErr, vec_len};
-ghost use Rattle.htext.specs.Vocabulary.{Refused, settled, EndsDecoding, Feeds, HasFed};
+ghost use Rattle.htext.specs.Vocabulary.{Refused, settled, EndsDecoding, Feeds, HasFed, ReadsOn};
 
 use crate::progress::Progress;
 use crate::sink::CharSink;
@@ -82,10 +82,7 @@ impl Decoder {
     /// The same for a decoder that has refused nothing yet; a refusal is for the caller to keep. A character that was cut by the end of
     /// the last piece is completed byte by byte; the rest is read without a copy.
     fn read_on<S: CharSink>(&mut self, bytes: &[u8], sink: &mut S) -> Result<(), Refusal>
-        ensures feeds { (fed : List ℕ) → HasFed self.old fed
-            → Feeds S.gives self.old.how fed bytes.now sink.old result sink.new }
-        ensures fed { OnOk result ((fed : List ℕ) → HasFed self.old fed → HasFed self.new (fed ++ bytes.now)) }
-        ensures how { self.new.how ≡ self.old.how }
+        ensures { ReadsOn S.gives self.old bytes.now sink.old result self.new sink.new }
     {
         for (index, byte) in bytes.iter().enumerate() {
             if self.undecoded.is_empty() {
@@ -96,12 +93,8 @@ impl Decoder {
         Ok(())
     }
 
-    /// The same for one byte, after undecoded ones.
     fn read_byte<S: CharSink>(&mut self, byte: u8, sink: &mut S) -> Result<(), Refusal>
-        ensures feeds { (fed : List ℕ) → HasFed self.old fed
-            → Feeds S.gives self.old.how fed (byte ∷ []) sink.old result sink.new }
-        ensures fed { OnOk result ((fed : List ℕ) → HasFed self.old fed → HasFed self.new (fed ++ byte ∷ [])) }
-        ensures how { self.new.how ≡ self.old.how }
+        ensures { ReadsOn S.gives self.old (byte ∷ []) sink.old result self.new sink.new }
     {
         self.undecoded.push(byte)?;
         let count = self.reading.advance(&self.undecoded, sink)?;
@@ -109,13 +102,9 @@ impl Decoder {
         Ok(())
     }
 
-    /// The same for a piece, where no undecoded byte comes before it.
     fn read_piece<S: CharSink>(&mut self, bytes: &[u8], sink: &mut S) -> Result<(), Refusal>
         requires { self.old.undecoded ≡ [] }
-        ensures feeds { (fed : List ℕ) → HasFed self.old fed
-            → Feeds S.gives self.old.how fed bytes.now sink.old result sink.new }
-        ensures fed { OnOk result ((fed : List ℕ) → HasFed self.old fed → HasFed self.new (fed ++ bytes.now)) }
-        ensures how { self.new.how ≡ self.old.how }
+        ensures { ReadsOn S.gives self.old bytes.now sink.old result self.new sink.new }
     {
         let count = self.reading.advance(bytes, sink)?;
         self.undecoded.extend_from_slice(&bytes[count..])?;
@@ -147,31 +136,18 @@ impl Decoder {
         if let Some(refusal) = self.refused {
             return Err(refusal);
         }
-        let answer = self.end(sink);
-        self.refused = answer.err();
-        answer
-    }
-
-    /// The same where nothing was refused.
-    fn end<S: CharSink>(&mut self, sink: &mut S) -> Result<(), Refusal>
-        ensures ends { (fed : List ℕ) → HasFed self.old fed → EndsDecoding S.gives self.old.how fed sink.old result sink.new }
-        ensures whole { OnOk result ((fed : List ℕ) → HasFed self.old fed → self.new.read ≡ length fed) }
-        ensures nothing_held { OnOk result (self.new.undecoded ≡ []) }
-        ensures unchanged { self.old.undecoded ≡ [] → (result ≡ Ok tt) × (self.new ≡ self.old) × (sink.new ≡ sink.old) }
-        ensures how { self.new.how ≡ self.old.how }
-        ensures refused { self.new.refused ≡ self.old.refused }
-        ensures error { IfErr result (λ _. self.new ≡ self.old) }
-    {
         if self.undecoded.is_empty() {
             return Ok(());
         }
-        self.reading.end(&self.undecoded, sink)?;
+        if let Err(refusal) = self.reading.end(&self.undecoded, sink) {
+            self.refused = Some(refusal);
+            return Err(refusal);
+        }
         self.undecoded.clear();
         Ok(())
     }
 }
 
-/// Removes the first bytes.
 fn remove_front(bytes: &mut Vec<u8>, count: usize)
     requires { count ≤ vec_len bytes.old }
     ensures { bytes.new.items ≡ drop count bytes.old.items }

@@ -29,6 +29,7 @@ pub fn bad_parts_begin_characters()
 {}
 
 /// More bytes change nothing of what was read.
+#[tactic(auto, using(crate::proofs::Texts::goes_on))]
 pub fn text_goes_on()
     ensures settled { (how : Policy) (bytes more : List ℕ)
         → (rest : List Read) × (settled how (bytes ++ more) ≡ settled how bytes ++ rest) }
@@ -44,6 +45,7 @@ pub fn places_rise()
 
 /// Where bad bytes are refused, bytes are refused for what follows the longest front that is UTF-8 and fits, at its end. Where they are
 /// replaced, bytes are refused only if they are too many.
+#[tactic(auto, using(crate::proofs::Refusals::accepted, crate::proofs::Refusals::too_large, crate::proofs::Refusals::not_utf8))]
 pub fn refusals_are_of_what_follows()
     ensures accepted { (how : Policy) (bytes : List ℕ) → how.bad ≡ Refuse
         → (refusal_of how bytes ≡ None) ↔ (IsUtf8 bytes × (length bytes ≤ how.limit)) }

@@ -1,12 +1,12 @@
 //! Reads bytes as UTF-8 as far as their text is the same whatever follows, and hands that text to a sink.
 
 ghost use Rattle.std.specs.Prelude.{◌≡◌, ℕ, ◌+◌, ◌-◌, ◌<◌, ◌≤◌, false, List, [], ◌∷◌, ◌++◌, length, map, take, drop, Ok, Err, IfOk, OnOk, IfErr};
-ghost use Rattle.std.specs.Prelude.{MatchOption, MatchResult};
+ghost use Rattle.std.specs.Prelude.{MatchOption};
 ghost use Rattle.std.specs.Char.{encode_utf8};
 ghost use Rattle.std.specs.Str.{chars};
 ghost use Rattle.std.specs.Str.Lossy.{utf8_valid_len};
-ghost use Rattle.htext.specs.Vocabulary.{placed, Hands, NotUtf8, MAX_INPUT, Refuse, Replace, Policy, Whole, Bad, normalized, ends_in_return, text, settled, items};
-ghost use Rattle.htext.specs.Vocabulary.{bad_each, IsCleanFront, DecoderHasRead, HandsOn, IsReading, IsUndecided, Stops, next_front, IsAhead};
+ghost use Rattle.htext.specs.Vocabulary.{placed, Hands, NotUtf8, MAX_INPUT, Refuse, Replace, Policy, Whole, Bad, normalized, ends_in_return, items};
+ghost use Rattle.htext.specs.Vocabulary.{Advances, bad_each, IsCleanFront, IsReading, next_front, IsAhead};
 
 use crate::character::{hand_char, is_clean};
 use crate::decoder::MAX_INPUT;
@@ -51,10 +51,7 @@ impl Progress {
     ) -> Result<usize, Refusal>
         ensures reads { let how : Policy = record { bom = self.old.bom; bad = self.old.bad_bytes; limit = self.old.limit } in
             (all : List ℕ) → IsReading how self.old.read self.old.after_return all → bytes.now ≡ drop self.old.read all
-            → MatchResult result
-            (λ count. HandsOn S.gives (text how.bom (take self.old.read all)) (settled how all) sink.old (Ok tt) sink.new
-            × DecoderHasRead how self.new.read self.new.after_return all × (drop count bytes.now ≡ drop self.new.read all) × IsUndecided how all)
-            (λ e. Stops S.gives how (text how.bom (take self.old.read all)) all sink.old e sink.new) }
+            → Advances S.gives how self.old.read all bytes.now sink.old result self.new.read self.new.after_return sink.new }
         ensures few { IfOk result (λ count. (count ≤ length bytes.now) × (length bytes.now ≤ count + 3)) }
         ensures how { (self.new.bom ≡ self.old.bom) × (self.new.bad_bytes ≡ self.old.bad_bytes) × (self.new.limit ≡ self.old.limit) }
     {
@@ -91,7 +88,6 @@ impl Progress {
         }
     }
 
-    /// As many of the bytes as are within the limit.
     fn fitting<'a>(&self, bytes: &'a [u8]) -> &'a [u8]
         ensures { result.now ≡ take (self.now.limit - self.now.read) bytes.now }
     {
@@ -113,7 +109,6 @@ impl Progress {
         self.next(rest)
     }
 
-    /// What is at the front of bytes that begin with no character within the limit.
     fn next(&self, rest: &[u8]) -> Front
         ensures { result ≡ next_front self.now.bad_bytes rest.now (self.now.limit - self.now.read) self.now.read }
     {
@@ -158,7 +153,6 @@ impl Progress {
         Ok(())
     }
 
-    /// Hands the next text of the input to the sink.
     #[inline(always)]
     fn hand_text<S: CharSink>(&mut self, text: &str, sink: &mut S) -> Result<(), Refusal>
         requires { self.old.read + length text.now ≤ self.old.limit }
@@ -194,7 +188,6 @@ impl Progress {
     }
 }
 
-/// The first character of a text, and what follows it.
 #[inline]
 fn split_first(text: &str) -> Option<(char, &str)>
     ensures { MatchOption result (text.now ≡ [])
@@ -205,7 +198,6 @@ fn split_first(text: &str) -> Option<(char, &str)>
     Some((first, chars.as_str()))
 }
 
-/// How many bytes the run of clean characters at the front of a text has.
 #[inline(always)]
 fn clean_run(text: &str) -> usize
     ensures { IsCleanFront result text.now }
@@ -235,7 +227,6 @@ fn valid_text(bytes: &[u8], after_bad: bool) -> &str
     }
 }
 
-/// The same, byte by byte.
 fn valid_text_by_one(bytes: &[u8]) -> &str
     ensures { result.now ≡ take (utf8_valid_len bytes.now) bytes.now }
 {

@@ -1,6 +1,6 @@
 //! How long the run of bytes of one kind at the front of a text is, counted 16 bytes at a time.
 
-ghost use Rattle.std.specs.Prelude.{◌≡◌, ◌<◌, ◌≤◌, ◌↔◌, ◌++◌, map, length, drop, IsTrue};
+ghost use Rattle.std.specs.Prelude.{◌≡◌, ◌<◌, ◌≤◌, ◌↔◌, map, length, drop, IsTrue};
 ghost use Rattle.std.specs.Int.{is_in_range};
 ghost use Rattle.std.specs.List.{prefix_len};
 ghost use Rattle.std.specs.Simd.Lanes.{mask_l};
@@ -12,8 +12,6 @@ use std::simd::prelude::*;
 /// Which bytes make up a run.
 #[derive(Clone, Copy)]
 pub(crate) enum RunBytes {
-    /// All but `<` and `&`.
-    Text,
     /// Those of tab, LF, FF, 20 to 7E, and U+00C0 to U+EFFF in UTF-8: most clean characters are of these.
     Clean,
     /// ASCII letters and digits.
@@ -68,7 +66,7 @@ const UNQUOTED: Halves = Halves {
 pub fn text_run(bytes: &[u8]) -> usize
     ensures { result ≡ prefix_len is_text_byte bytes.now }
 {
-    run(RunBytes::Text, bytes)
+    run(RunBytes::Quoted(b'<'), bytes)
 }
 
 /// Counts the ASCII letters and digits before the first other byte.
@@ -174,25 +172,18 @@ fn short_run(kind: RunBytes, bytes: &[u8]) -> usize
     if bytes.len() < 8 || bytes.len() >= 16 {
         return run(kind, bytes);
     }
-    let found = stops(kind, twice(u8x8::from_slice(bytes)));
+    let eight = u8x8::from_slice(bytes);
+    let twice = eight.shuffle(
+        eight,
+        [0, 1, 2, 3, 4, 5, 6, 7, 8, 9, 10, 11, 12, 13, 14, 15],
+    );
+    let found = stops(kind, twice);
     if found != 0 {
         return found.trailing_zeros() as usize;
     }
     8 + run_by_one(kind, &bytes[8..])
 }
 
-/// Eight bytes, and these again.
-#[inline(always)]
-fn twice(eight: u8x8) -> u8x16
-    ensures { result ≡ eight ++ eight }
-{
-    eight.shuffle(
-        eight,
-        [0, 1, 2, 3, 4, 5, 6, 7, 8, 9, 10, 11, 12, 13, 14, 15],
-    )
-}
-
-/// The same, a byte at a time.
 #[inline(always)]
 fn run_by_one(kind: RunBytes, bytes: &[u8]) -> usize
     ensures counted { result ≡ prefix_len (is_run_byte kind) bytes.now }
@@ -211,9 +202,7 @@ fn run_by_one(kind: RunBytes, bytes: &[u8]) -> usize
 fn stops(kind: RunBytes, bytes: u8x16) -> u64
     ensures { result ≡ mask_l (map (is_not_of kind) bytes) }
 {
-    let marks = bytes.simd_eq(u8x16::splat(b'<')) | bytes.simd_eq(u8x16::splat(b'&'));
     match kind {
-        RunBytes::Text => marks.to_bitmask(),
         RunBytes::Clean => outside(CLEAN, bytes),
         RunBytes::Alphanumeric => outside(ALPHANUMERIC, bytes),
         RunBytes::Word => outside(WORD, bytes),
@@ -224,7 +213,6 @@ fn stops(kind: RunBytes, bytes: u8x16) -> u64
     }
 }
 
-/// Which of these bytes are outside a set.
 #[inline(always)]
 fn outside(set: Halves, bytes: u8x16) -> u64
     ensures { result ≡ mask_l (map (shares_no_bit set) bytes) }
@@ -234,13 +222,11 @@ fn outside(set: Halves, bytes: u8x16) -> u64
     (low & high).simd_eq(u8x16::splat(0)).to_bitmask()
 }
 
-/// Whether a byte may be in a run.
 #[inline(always)]
 fn is_in_run(kind: RunBytes, byte: u8) -> bool
     ensures { result ≡ is_run_byte kind byte }
 {
     match kind {
-        RunBytes::Text => !matches!(byte, b'<' | b'&'),
         RunBytes::Clean => matches!(
             byte,
             b'\t' | b'\n' | 0x0C | b' '..=b'~' | 0x80..=0xBF | 0xC3..=0xEE

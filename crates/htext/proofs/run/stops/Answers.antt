@@ -19,9 +19,6 @@ marks : (mark : ℕ) (v : List ℕ) → length v ≡ 16 → Each1 (Fits w8) v
 marks mark v long fits =
     masked (λ x. bit_or (hit x mark) (hit x 38)) (is_not_of (Quoted mark)) v _ (omega arith) fits (zip2_of_maps bit_or _ _ v (zip2_splat hit v 16 mark long) (zip2_splat hit v 16 38 long)) (λ x _. either (eqb x mark) (eqb x 38))
 
-pub returns-in-Text : goal.returns-in-Text
-returns-in-Text c = rw c.in-Text.is (marks 60 c.args.bytes c.fits-bytes.0 c.fits-bytes.1)
-
 pub returns-in-Quoted : goal.returns-in-Quoted
 returns-in-Quoted c = rw c.in-Quoted.is (marks c.in-Quoted.mark c.args.bytes c.fits-bytes.0 c.fits-bytes.1)
 
