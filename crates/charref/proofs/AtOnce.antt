@@ -1,17 +1,18 @@
 -- What the bytes after an `&` settle of it.
-use Rattle.charref.proofs.Names.{arith, ◌≡◌, inl, inr, ℕ, ◌+◌, ◌-◌, ◌≤◌, ◌<◌, min, true, false, true≢false, not, nat_eq, List, [], ◌∷◌, ◌++◌, length, take, drop, slice_get, get_or, encode_utf8_all, Option, Some, None, refl, sym, ap, ◌∙◌, subst, length-append, append_assoc, and_parts, and_from, nat_tests, take_more, length-map, is_ascii, starts_with, list_all, some_same, Placed, placed, characters, all, is_alphanumeric, is_empty, Reference, Characters, Search, Alphanumeric, Walk, Entry, Entities, IsTable, Piece, longest, is_key, is_key_name, ends_in_semicolon, code_at, IsAfterKey, IsOpenKey, OpenKey, IsSortedTable, IsRange, IsOver, EntryGoesOn, HasNone, SearchHasRead, key_bytes, IsOpenReference, IsRead, characters_of, errors_of, unknown_of, WalkHasTaken, IsOpenKeyOf, HasWalked, Settles, SettlesNothing}
+use Rattle.charref.proofs.Names.{arith, ◌≡◌, inl, inr, ℕ, ◌+◌, ◌-◌, ◌≤◌, ◌<◌, min, true, false, true≢false, not, nat_eq, List, [], ◌∷◌, ◌++◌, length, take, drop, slice_get, get_or, encode_utf8_all, Option, Some, None, refl, sym, ap, ◌∙◌, subst, length-append, append_assoc, and_parts, and_from, nat_tests, take_more, length-map, is_ascii, starts_with, list_all, some_same, Placed, placed, characters, all, is_alphanumeric, is_empty, Reference, Characters, Alphanumeric, Walk, Entry, Entities, IsTable, Piece, longest, is_key, is_key_name, ends_in_semicolon, code_at, IsAfterKey, IsOpenKey, OpenKey, IsSortedTable, IsRange, IsOver, EntryGoesOn, HasNone, SearchHasRead, key_bytes, IsOpenReference, IsRead, characters_of, errors_of, unknown_of, WalkHasTaken, IsOpenKeyOf, HasWalked, Settles, SettlesNothing}
 use Rattle.std.proofs.Common.{take-take, take-append-drop}
 use Rattle.std.proofs.lemmas.List.{length-take, length-take-le, get_or-take}
 use Rattle.charref.specs.Table.{character_code}
 use Rattle.std.proofs.lemmas.Bool.{cases_lt}
 use Rattle.std.proofs.lemmas.List.Folds.{list_all_at}
-use Rattle.std.specs.Char.{len_utf8}
 use Rattle.htext.proofs.Parts.{placed-append}
 use Rattle.charref.specs.Walk.{TakesCharacter}
 use Rattle.charref.specs.AtOnce.{HasWhole}
 use Rattle.charref.proofs.Keys.{longest-whole, longest-over, no_longer, begins_itself, begins_later, in_order, whole as whole_key}
 use Rattle.charref.proofs.Core.{once}
-use Rattle.charref.proofs.Naming.{is_key_of, key_of, key_opens, name_all, Opens}
+use Rattle.charref.proofs.Naming.{is_key_of, key_of, key_opens, name_all, some_placed, Opens}
+-- under the name by which the crates above cite it
+pub use Rattle.charref.proofs.Naming.{characters-placed}
 use Rattle.charref.proofs.Ranges.{within}
 use Rattle.charref.proofs.Searching.{read_ampersand}
 use Rattle.charref.proofs.Fronts.{run_more}
@@ -27,9 +28,6 @@ last_at at bytes k = record { ch = get_or bytes k 0; at = at + length (encode_ut
 
 pub more_bytes : (bytes : List ℕ) (k : ℕ) → k < length bytes → (at : ℕ) → placed at (take (k + 1) bytes) ≡ placed at (take k bytes) ++ last_at at bytes k ∷ []
 more_bytes bytes k within at = ap (placed at) (take_more bytes k 0 within) ∙ placed-append at (take k bytes) (get_or bytes k 0 ∷ [])
-
-pub walked_nothing : (walk : Walk) (table : Entities) (bytes : List ℕ) → WalkHasTaken walk table false [] → HasWalked walk table bytes 0
-walked_nothing walk table bytes taken = record { few = omega arith; ascii = refl; taken = λ at. taken }
 
 module _ (table : Entities) (bytes : List ℕ) (k : ℕ) (walk next : Walk) (within : k < length bytes) (ascii : is_ascii (get_or bytes k 0) ≡ true) (before : HasWalked walk table bytes k) where
   abbrev takes : Option Reference → Type 0
@@ -90,17 +88,17 @@ nothing_settled walk table bytes count is_table walked stops n found settles =
 none_over : (table : Entities) (bytes : List ℕ) (low high : ℕ) → IsRange table bytes low high → low ≡ high → HasNone table bytes
 none_over table bytes low high range over = record { none = λ k e at opens. (let parts : (low ≤ k) × (k < high) = within low high k (sym (range.exact k e at) ∙ opens) in absurd (omega arith)) }
 
-pub no_first : (table : Entities) (bytes : List ℕ) (byte : ℕ) (search : Search) → IsSortedTable table → Some byte ≡ slice_get bytes 0 → is_alphanumeric byte ≡ true → SearchHasRead search table (38 ∷ byte ∷ []) → search.low ≡ search.high
+pub no_first : (table : Entities) (bytes : List ℕ) (byte low high : ℕ) → IsSortedTable table → Some byte ≡ slice_get bytes 0 → is_alphanumeric byte ≡ true → IsRange table (38 ∷ byte ∷ []) low high → low ≡ high
     → Settles table bytes 1 (unknown_of 1 Alphanumeric)
-no_first table [] byte search sorted first letter read over = absurd (cc)
-no_first table (b ∷ bs) byte search sorted first letter read over = record {
+no_first table [] byte low high sorted first letter range over = absurd (cc)
+no_first table (b ∷ bs) byte low high sorted first letter range over = record {
   some = omega arith;
   few = omega arith;
   ascii = and_from _ _ (grind (arith, nat_tests)) refl;
   read = λ at after.
       let p : Placed = record { ch = b; at = at } in
       let begun = read_ampersand table (length table) sorted refl in
-      let none : HasNone table (38 ∷ b ∷ []) = subst (λ x. HasNone table (38 ∷ x ∷ [])) same (none_over table (38 ∷ byte ∷ []) search.low search.high read.range over) in
+      let none : HasNone table (38 ∷ b ∷ []) = subst (λ x. HasNone table (38 ∷ x ∷ [])) same (none_over table (38 ∷ byte ∷ []) low high range over) in
       subst (λ l. IsRead table false (p ∷ []) after (unknown_of 1 l)) (sym (last_letter b letter'))
       (read_unknown table false [] p after 1 refl (λ is. letter') refl (sym (best_before table false [] after p _ begun none)) (settled_before table false [] after p _ begun none));
 }
@@ -112,10 +110,6 @@ no_first table (b ∷ bs) byte search sorted first letter read over = record {
     letter' = subst (λ x. is_alphanumeric x ≡ true) same letter
 
 -- KEYS THAT END IN A SEMICOLON
-
-pub characters-placed : (at : ℕ) (bytes : List ℕ) → characters (placed at bytes) ≡ bytes
-characters-placed at [] = refl
-characters-placed at (x ∷ xs) = ap (λ cs. x ∷ cs) (characters-placed (at + len_utf8 x) xs)
 
 -- letters and digits do not end in it
 no_semicolon : (c : ℕ) (text : List Placed) → is_alphanumeric c ≡ true → all is_alphanumeric text ≡ true → ends_in_semicolon (c ∷ characters text) ≡ true → ⊥
@@ -199,10 +193,6 @@ key_settles table bytes place count lent has size stands =
     }
 
 -- FRONTS
-
-some_placed : (at : ℕ) (bytes : List ℕ) → 0 < length bytes → is_empty (placed at bytes) ≡ false
-some_placed at [] some = absurd (omega arith)
-some_placed at (x ∷ xs) some = refl
 
 -- the next byte settles the key, where it does after the text of the key
 pub key_settles_before : (table : Entities) (bytes : List ℕ) (count : ℕ) (key : OpenKey) (found : Reference) → IsTable table → IsOpenKeyOf table bytes key → count ≡ key.search.depth - 1 → count < length bytes

@@ -1,5 +1,6 @@
 -- Whether bytes begin with a name, seen 16 at a time through the mask of those that differ.
-use Rattle.charref.proofs.Names.{◌≡◌, ℕ, zero, suc, ◌+◌, ◌-◌, ◌≤◌, ◌<◌, Bool, true, false, not, cond, ◌&&◌, nat_eq, nat_le, List, [], ◌∷◌, map, length, take, drop, refl, sym, ap, ◌∙◌, arith, starts_with, nat_tests, take_rest, drop-drop, nat_lt, get_or, is_lt, slice_cmp, nat_cmp, false≢true, min}
+use Rattle.charref.proofs.Names.{◌≡◌, ℕ, zero, suc, ◌+◌, ◌-◌, ◌≤◌, ◌<◌, Bool, true, false, not, cond, ◌&&◌, nat_eq, nat_le, List, [], ◌∷◌, map, length, take, drop, refl, sym, ap, ◌∙◌, arith, starts_with, nat_tests, take_rest, drop-drop, nat_lt, get_or, is_lt, slice_cmp, nat_cmp, false≢true, min, Some, slice_get, subst, length-map, All, Entity, Entry, Entities, entry, entries, IsEntity}
+use Rattle.charref.proofs.Ranges.{entry_in}
 use Rattle.std.proofs.Common.{w8, ◌^◌, ◌%◌}
 use Rattle.std.specs.List.{prefix_len, slice_range}
 use Rattle.std.proofs.lemmas.Simd.{first_set_mask_l, length-zip2, tops_compared, mask_l-mod, length-chunk}
@@ -126,3 +127,10 @@ opens_named text bytes start end r some e =
     let long : end - start ≡ suc k = omega (arith, some) in
     let name : drop 1 (slice_range text start end) ≡ take k (drop (start + 1) text) = ap (λ (n : ℕ). drop 1 (take n (drop start text))) long ∙ first_off k (drop start text) ∙ ap (take k) (drop-drop 1 start text) in
     e ∙ ap (λ (x : List ℕ). starts_with nat_eq bytes (take k x)) (take_rest text (start + 1)) ∙ ap (starts_with nat_eq bytes) (sym name)
+
+-- the key of an entity
+pub opens_entry : (text bytes : List ℕ) (es : List Entity) (table : Entities) (k : ℕ) (d : Entity) (r : Bool) → All (IsEntity text) es → entries text es ≡ table → k < length table → d ≡ get_or es k d
+    → r ≡ starts_with nat_eq bytes (take (d.end - d.start - 1) (take (length text - (d.start + 1)) (drop (d.start + 1) text))) → (e : Entry) × (slice_get table k ≡ Some e) × (r ≡ starts_with nat_eq bytes (drop 1 e.key))
+opens_entry text bytes es table k d r all is less got same =
+    let size : length es ≡ length table = sym (length-map es (entry text)) ∙ ap length is in
+    (entry text d, entry_in text es table k d is less got, opens_named text bytes d.start d.end r (subst (λ (x : Entity). x.start < x.end) (sym got) (all k d (omega (arith, less, size))).some) same)

@@ -20,16 +20,13 @@ once (x ∷ xs) distinct zero (suc k) e f p q is = absurd (let same : x ≡ e = 
 once (x ∷ xs) distinct (suc j) zero e f p q is = absurd (let same : x ≡ f = cc in same_key x.key e.key (ap (λ (y : Entry). y.key) same ∙ sym is) (below_each xs (λ y. bytes_eq x.key y ≡ false) j e distinct.0 p))
 once (x ∷ xs) distinct (suc j) (suc k) e f p q is = let s : j ≡ k = once xs distinct.1 j k e f p q is in ap suc s
 
-pub same_entry : (e : Entry) (key characters : List ℕ) → e.key ≡ key → e.stands_for ≡ characters → e ≡ record { key = key; stands_for = characters }
-same_entry e key characters p q = λ i. record { key = p i; stands_for = q i }
-
 -- what is found under a whole key
 pub has_true : (table : Entities) (key characters : List ℕ) (e : Entry) → longest table key ≡ Some e → length e.key ≡ length key → e.stands_for ≡ characters → Contains table (record { key = key; stands_for = characters })
 has_true table key characters e found size stands =
     let among : (k : ℕ) × (slice_get table k ≡ Some e) × (starts_with nat_eq key e.key ≡ true) = longest_among table key e found in
     let key-is : e.key ≡ key = whole key e.key among.2 size in
     let made : Entry = record { key = key; stands_for = characters } in
-    let is : e ≡ made = same_entry e key characters key-is stands in
+    let is : e ≡ made = (λ i. record { key = key-is i; stands_for = stands i }) in
     let got : slice_get table among.0 ≡ Some made = among.1 ∙ ap Some is in
     (among.0, slice_get_within table among.0 made got, get_or_from_slice_get table among.0 made made got)
 

@@ -14,30 +14,6 @@ use Rattle.charref.proofs.Members.{are_entries}
 small : (c : ℕ) → is_character c ≡ true → c < 2 ^ 32
 small c is = let most : nat_le c 0x10FFFF ≡ true = (and_parts (not (c == 0)) (nat_le c 0x10FFFF) (and_parts (not (c == 0) && nat_le c 0x10FFFF) _ is).0).1 in let le : c ≤ 0x10FFFF = grind (arith, nat_tests) in omega arith
 
-one_character : (c d : ℕ) → is_character c ≡ true → is_character d ≡ true → flat_character c ≡ flat_character d → c ≡ d
-one_character c d p q is = sym (from_le_bytes-to_le_bytes_4 c (small c p)) ∙ ap (from_le_bytes w32) is ∙ from_le_bytes-to_le_bytes_4 d (small d q)
-
--- lists that begin with four elements each
-four_same : (a b c d e f g h : ℕ) (r s : List ℕ) → a ∷ b ∷ c ∷ d ∷ r ≡ e ∷ f ∷ g ∷ h ∷ s → (a ∷ b ∷ c ∷ d ∷ [] ≡ e ∷ f ∷ g ∷ h ∷ []) × (r ≡ s)
-four_same a b c d e f g h r s is =
-    let one : a ≡ e = cc in
-    let two : b ≡ f = cc in
-    let three : c ≡ g = cc in
-    let four : d ≡ h = cc in
-    let rest : r ≡ s = cc in
-    ((λ i. one i ∷ two i ∷ three i ∷ four i ∷ []), rest)
-
-same_characters : (cs ds r s : List ℕ) → list_all is_character cs ≡ true → list_all is_character ds ≡ true → length cs ≡ length ds
-    → flat_map flat_character cs ++ r ≡ flat_map flat_character ds ++ s → (cs ≡ ds) × (r ≡ s)
-same_characters [] [] r s p q size is = (refl, is)
-same_characters [] (d ∷ ds) r s p q size is = absurd (omega arith)
-same_characters (c ∷ cs) [] r s p q size is = absurd (omega arith)
-same_characters (c ∷ cs) (d ∷ ds) r s p q size is =
-    let four : (flat_character c ≡ flat_character d) × (flat_map flat_character cs ++ r ≡ flat_map flat_character ds ++ s) = four_same _ _ _ _ _ _ _ _ _ _ is in
-    let first : c ≡ d = one_character c d (and_parts _ _ p).0 (and_parts _ _ q).0 four.0 in
-    let others : (cs ≡ ds) × (r ≡ s) = same_characters cs ds r s (and_parts _ _ p).1 (and_parts _ _ q).1 (omega arith) four.1 in
-    ((λ i. first i ∷ others.0 i), others.1)
-
 -- what four bytes each are read as
 decoded : (cs rest : List ℕ) → list_all is_character cs ≡ true → numbers_in (length cs) (flat_map flat_character cs ++ rest) ≡ cs
 decoded [] rest is = refl
@@ -45,6 +21,12 @@ decoded (c ∷ cs) rest is =
     let first : from_le_bytes w32 (flat_character c) ≡ c = from_le_bytes-to_le_bytes_4 c (small c (and_parts (is_character c) _ is).0) in
     let others : numbers_in (length cs) (flat_map flat_character cs ++ rest) ≡ cs = decoded cs rest (and_parts (is_character c) _ is).1 in
     ((λ i. first i ∷ others i))
+
+same_characters : (cs ds r s : List ℕ) → list_all is_character cs ≡ true → list_all is_character ds ≡ true → length cs ≡ length ds
+    → flat_map flat_character cs ++ r ≡ flat_map flat_character ds ++ s → (cs ≡ ds) × (r ≡ s)
+same_characters cs ds r s p q size is =
+    let same : cs ≡ ds = sym (decoded cs r p) ∙ (λ i. numbers_in (size i) (is i)) ∙ decoded ds s q in
+    (same, sym (drop-append_seam (flat_map flat_character cs) r) ∙ (λ i. drop (length (flat_map flat_character (same i))) (is i)) ∙ drop-append_seam (flat_map flat_character ds) s)
 
 pub read_characters : (cs bytes : List ℕ) (n : ℕ) → is_one_or_two cs ≡ true → BeginsWith (flat_characters cs) bytes n → characters_in bytes ≡ cs
 read_characters cs bytes n is begins = ap characters_in begins.is ∙ decoded cs (drop n bytes) (and_parts _ (list_all is_character cs) is).1

@@ -7,7 +7,7 @@ use Rattle.std.proofs.Math.Seq.{drop-cons}
 use Rattle.std.proofs.lemmas.Bool.{cases_lt}
 use Rattle.std.proofs.lemmas.List.{drop_all, take_all}
 use Rattle.std.proofs.lemmas.List.Folds.{list_all_more}
-use Rattle.charref.proofs.Naming.{follows, ends, closes, continues, Opens, key_opens}
+use Rattle.charref.proofs.Naming.{follows, ends, closes, continues}
 
 -- a run, byte by byte
 pub run_more : (test : ℕ → Bool) (bytes : List ℕ) (n : ℕ) → n < length bytes → list_all test (take n bytes) ≡ true → test (get_or bytes n 0) ≡ true → list_all test (take (n + 1) bytes) ≡ true
@@ -118,16 +118,6 @@ open_end bytes n other = elim (cases_lt n (length bytes)) [
   | inl less ↦ (let no : get_or bytes n 0 ≢ 59 = other less in let test : (get_or bytes n 0 == 59) ≡ false = grind (arith, nat_tests) in ap closing (drop-cons bytes n 0 less) ∙ ap (λ (b : Bool). cond b 1 0) test)
   | inr past ↦ ap closing (drop_all n bytes past)
 ]
-
-pub no_key : (bytes : List ℕ) → (1 ≤ length bytes → get_or bytes 0 0 ≡ 38 → prefix_len is_alphanumeric (drop 1 bytes) ≡ 0) → HasNoKey bytes
-no_key bytes none key rest is end same =
-    let opens : Opens key = key_opens key is in
-    let letter : is_alphanumeric opens.first ≡ true = opens.alphanumeric in
-    let whole : bytes ≡ (38 ∷ opens.first ∷ opens.others) ++ rest = same ∙ ap (λ k. k ++ rest) opens.is in
-    let zero : prefix_len is_alphanumeric (opens.first ∷ (opens.others ++ rest)) ≡ 0 =
-    subst (λ bs. 1 ≤ length bs → get_or bs 0 0 ≡ 38 → prefix_len is_alphanumeric (drop 1 bs) ≡ 0) whole none (omega arith) refl in
-    let some : prefix_len is_alphanumeric (opens.first ∷ (opens.others ++ rest)) ≡ 1 + prefix_len is_alphanumeric (opens.others ++ rest) = rw letter refl in
-    omega (arith, zero, some)
 
 -- whether all the bytes are a key
 pub whole_key : (key : List ℕ) (size : ℕ) → IsOnlyKey key size → nat_eq size (length key) ≡ is_key key

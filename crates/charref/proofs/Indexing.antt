@@ -1,9 +1,7 @@
 -- The index of the bytes after the `&`.
-use Rattle.charref.proofs.Names.{arith, ◌≡◌, ◌⊎◌, inl, inr, ℕ, zero, suc, some_same, ◌+◌, ◌≤◌, ◌<◌, true, ◌&&◌, List, [], ◌∷◌, ◌++◌, length, slice_get, get_or, Option, Some, None, nat_le, refl, sym, ap, ◌∙◌, subst, length-append, and_from, and_parts, nat_tests, slice_get_within, slice_get-get_or, Search, Entry, Entities, code_at, IsSortedTable, IsRange, IsRising, IsParted, IsStart, IsIndex, SearchHasRead}
-use Rattle.std.proofs.Common.{IfSome}
+use Rattle.charref.proofs.Names.{arith, ◌≡◌, ◌⊎◌, inl, inr, ℕ, zero, suc, some_same, ◌+◌, ◌≤◌, ◌<◌, List, [], ◌∷◌, ◌++◌, length, slice_get, get_or, Some, refl, sym, ap, ◌∙◌, subst, length-append, slice_get_within, slice_get-get_or, Search, Entry, Entities, code_at, IsSortedTable, IsRange, IsRising, IsParted, IsStart, IsIndex, SearchHasRead}
 use Rattle.std.proofs.lemmas.Bool.{cases_lt}
 use Rattle.std.proofs.lemmas.Option.{slice_get_cases}
-use Rattle.charref.specs.Table.{is_place, is_search_within}
 use Rattle.charref.proofs.Ranges.{range_rises, range_more}
 use Rattle.charref.proofs.Searching.{read_ampersand}
 
@@ -86,34 +84,7 @@ range_of table starts byte sorted index small =
     let second : IsStart table (get_or starts (byte + 1 + 1) 0) (byte + 1 + 1) = index.at (byte + 1 + 1) _ (slice_get-get_or starts (byte + 1 + 1) 0 (omega arith)) in
     start_range table byte _ _ sorted first (subst (λ n. IsStart table (get_or starts (byte + 1 + 1) 0) n) next second)
 
--- what has read something stays within the table
-place_within : (best : Option ℕ) (count : ℕ) → IfSome best (λ k. k < count) → is_place best count ≡ true
-place_within None count h = refl
-place_within (Some k) count h = grind (arith, nat_tests)
-
-pub search_within : (table : Entities) (search : Search) (bytes : List ℕ) → SearchHasRead search table bytes → is_search_within search (length table) ≡ true
-search_within table search bytes read =
-    let ordered : search.low ≤ search.high = read.range.ordered in
-    let within : search.high ≤ length table = read.range.within in
-    and_from _ _ (let a : nat_le search.low search.high ≡ true = grind (arith, nat_tests) in let b : nat_le search.high (length table) ≡ true = grind (arith, nat_tests) in rw (a, b) refl)
-    (place_within search.best (length table) read.within)
-
--- what it says that a search stays within a table
-place_there : (best : Option ℕ) (count : ℕ) → is_place best count ≡ true → IfSome best (λ k. k < count)
-place_there None count h = tt
-place_there (Some k) count h = grind (arith, h, nat_tests)
-
-pub is_within : (search : Search) (count : ℕ) → is_search_within search count ≡ true → (search.low ≤ search.high) × (search.high ≤ count) × IfSome search.best (λ k. k < count)
-is_within search count h =
-    let parts = and_parts (nat_le search.low search.high && nat_le search.high count) (is_place search.best count) h in
-    let ends = and_parts (nat_le search.low search.high) (nat_le search.high count) parts.0 in
-    (grind (arith, ends.0, nat_tests), grind (arith, ends.1, nat_tests), place_there search.best count parts.1)
-
--- what the first character after the `&` narrows a search to
-pub read_first : (table flat : Entities) (search : Search) (ch : ℕ) (r : Option Search) → flat ≡ table → search.depth ≡ 1 → IfSome r (λ next. SearchHasRead next flat (38 ∷ ch ∷ []))
-    → IfSome r (λ next. (bytes : List ℕ) → SearchHasRead search table (38 ∷ bytes) → SearchHasRead next table (38 ∷ bytes ++ ch ∷ []))
-read_first table flat search ch None same one h = tt
-read_first table flat search ch (Some next) same one h = λ bytes read. by bytes (sym one ∙ read.depth) where
-  by : (bytes : List ℕ) → 1 ≡ length (38 ∷ bytes) → SearchHasRead next table (38 ∷ bytes ++ ch ∷ [])
-  by [] e = subst (λ (t : Entities). SearchHasRead next t (38 ∷ ch ∷ [])) same h
-  by (b ∷ bs) e = absurd (omega (arith, e))
+-- after the `&` alone the byte is the first
+pub range_first : (table : Entities) (search : Search) (byte low high : ℕ) → search.depth ≡ 1 → IsRange table (38 ∷ byte ∷ []) low high → (bytes : List ℕ) → SearchHasRead search table (38 ∷ bytes) → IsRange table (38 ∷ bytes ++ byte ∷ []) low high
+range_first table search byte low high one range [] read = range
+range_first table search byte low high one range (b ∷ bs) read = absurd (omega (arith, one, read.depth))

@@ -4,9 +4,9 @@ use Rattle.std.specs.Char.{encode_utf8}
 use Rattle.serde_json.specs.View.{items_view}
 
 -- a list of more than two
-pub codepoints-none : (vs : List Value) → 3 ≤ length vs → None ≡ codepoints (items_view vs)
-codepoints-none (v ∷ w ∷ x ∷ vs) h = refl
-codepoints-none _ h = absurd (omega arith)
+pub codepoints_none : (vs : List Value) → 3 ≤ length vs → None ≡ codepoints (items_view vs)
+codepoints_none (v ∷ w ∷ x ∷ vs) h = refl
+codepoints_none _ h = absurd (omega arith)
 
 pub encode_utf8_all-append : (cs ds : List ℕ) → encode_utf8_all (cs ++ ds) ≡ encode_utf8_all cs ++ encode_utf8_all ds
 encode_utf8_all-append [] ds = refl

@@ -11,9 +11,6 @@ use Rattle.std.specs.Ordering.{ordering_then}
 nat_same : (x y : ℕ) → nat_eq x y ≡ true → x ≡ y
 nat_same x y h = grind (arith, nat_tests)
 
-pub tied : (x : ℕ) → nat_cmp x x ≡ Equal
-tied x = sym (nat_cmp_is x x Equal refl)
-
 pub above : (x y : ℕ) → y < x → nat_cmp x y ≡ Greater
 above x y h = sym (nat_cmp_is x y Greater h)
 
@@ -26,7 +23,7 @@ code_at_first x y xs ys h = elim (cases_lt y x) [
 
 -- what follows equal first bytes of two keys in order
 past_first : (x y : ℕ) (xs ys : List ℕ) → x ≡ y → slice_cmp nat_cmp (x ∷ xs) (y ∷ ys) ≡ Less → slice_cmp nat_cmp xs ys ≡ Less
-past_first x y xs ys is h = subst (λ o. ordering_then o (slice_cmp nat_cmp xs ys) ≡ Less) (subst (λ z. nat_cmp x z ≡ Equal) is (tied x)) h
+past_first x y xs ys is h = subst (λ o. ordering_then o (slice_cmp nat_cmp xs ys) ≡ Less) (subst (λ z. nat_cmp x z ≡ Equal) is (sym (nat_cmp_is x x Equal refl))) h
 
 -- of two keys in order that begin with these bytes, the byte after them
 pub code_at-le : (bytes a b : List ℕ) → starts_with nat_eq a bytes ≡ true → starts_with nat_eq b bytes ≡ true → slice_cmp nat_cmp a b ≡ Less
@@ -160,43 +157,31 @@ longest_among (x ∷ xs) text e h = elim (first_or_later x (starts_with nat_eq t
   | inr later ↦ let found = longest_among xs text e later in (suc found.0, found.1, found.2)
 ]
 
--- and no shorter than another one
-abbrev NoShorter : Option Entry → ℕ → Type 0
-NoShorter found n = (e : Entry) × (found ≡ Some e) × (n ≤ length e.key)
-
-longer_of : (x f : Entry) (n : ℕ) → (n ≤ length x.key) ⊎ (n ≤ length f.key) → NoShorter (longer_entry x (Some f)) n
-longer_of x f n h = by (nat_lt (length f.key) (length x.key)) refl h
-  where
-    by : (b : Bool) → nat_lt (length f.key) (length x.key) ≡ b → (n ≤ length x.key) ⊎ (n ≤ length f.key) → NoShorter (cond b (Some x) (Some f)) n
-    by true is h = (x, refl, elim h [ inl most ↦ most | inr most ↦ grind (arith, is, most, nat_tests) ])
-    by false is h = (f, refl, elim h [ inl most ↦ grind (arith, is, most, nat_tests) | inr most ↦ most ])
-
-first_longer : (x : Entry) (o : Option Entry) → NoShorter (longer_entry x o) (length x.key)
-first_longer x None = (x, refl, omega arith)
-first_longer x (Some f) = longer_of x f (length x.key) (inl (omega arith))
-
-longest_longer : (table : Entities) (text : List ℕ) (k : ℕ) (e : Entry) → slice_get table k ≡ Some e → starts_with nat_eq text e.key ≡ true → NoShorter (longest table text) (length e.key)
-longest_longer [] text k e h p = absurd (cc)
-longest_longer (x ∷ xs) text zero e h p =
-    let same : x ≡ e = cc in
-    let test : starts_with nat_eq text x.key ≡ true = ap (λ (y : Entry). starts_with nat_eq text y.key) same ∙ p in
-    subst (λ (y : Entry). NoShorter (cond (starts_with nat_eq text x.key) (longer_entry x (longest xs text)) (longest xs text)) (length y.key)) same (rw test (first_longer x (longest xs text)))
-longest_longer (x ∷ xs) text (suc k) e h p =
-    let (f, found, most) = longest_longer xs text k e h p in
-    rw found (by f most (starts_with nat_eq text x.key))
-  where
-    by : (f : Entry) → length e.key ≤ length f.key → (b : Bool) → NoShorter (cond b (longer_entry x (Some f)) (Some f)) (length e.key)
-    by f most true = longer_of x f (length e.key) (inr most)
-    by f most false = (f, refl, most)
-
 -- a key that is the text at one place only is the longest of it
 pub record IsOnly (table : Entities) (text : List ℕ) (k : ℕ) : Type 0 where
   pub here : (j : ℕ) (f : Entry) → slice_get table j ≡ Some f → f.key ≡ text → j ≡ k
 
 pub longest-whole : (table : Entities) (text : List ℕ) (k : ℕ) (e : Entry) → IsOnly table text k → slice_get table k ≡ Some e → e.key ≡ text → longest table text ≡ Some e
-longest-whole table text k e only h is =
-    let (f, found, most) = longest_longer table text k e h (subst (λ t. starts_with nat_eq text t ≡ true) (sym is) (begins_itself text)) in
-    let (j, at, begins) = longest_among table text f found in
-    let least : length f.key ≤ length text = no_longer text f.key begins in
-    let place : j ≡ k = only.here j f at (whole text f.key begins (omega (arith, most, least, ap length is))) in
-    found ∙ sym at ∙ ap (slice_get table) place ∙ h
+longest-whole [] text k e only h is = absurd (cc)
+longest-whole (x ∷ xs) text zero e only h is =
+    let same : x ≡ e = cc in
+    let key : x.key ≡ text = ap (λ (y : Entry). y.key) same ∙ is in
+    let begins : starts_with nat_eq text x.key ≡ true = subst (λ t. starts_with nat_eq text t ≡ true) (sym key) (begins_itself text) in
+    rw begins (by key (longest xs text) refl ∙ ap Some same)
+  where
+    by : x.key ≡ text → (o : Option Entry) → longest xs text ≡ o → longer_entry x o ≡ Some x
+    by key None found = refl
+    by key (Some f) found =
+        let (j, at, begins) = longest_among xs text f found in
+        let most : length f.key ≤ length text = no_longer text f.key begins in
+        let other : length f.key ≡ length text → ⊥ = λ (size : length f.key ≡ length text). (let place : suc j ≡ 0 = only.here (suc j) f at (whole text f.key begins size) in omega arith) in
+        let less : nat_lt (length f.key) (length x.key) ≡ true = grind (arith, nat_tests, most, other, ap length key) in
+        rw less refl
+longest-whole (x ∷ xs) text (suc k) e only h is =
+    rw (longest-whole xs text k e (record { here = λ j f at same. (let place : suc j ≡ suc k = only.here (suc j) f at same in omega arith) }) h is) (by (starts_with nat_eq text x.key) refl)
+  where
+    by : (b : Bool) → starts_with nat_eq text x.key ≡ b → cond b (longer_entry x (Some e)) (Some e) ≡ Some e
+    by false begins = refl
+    by true begins =
+        let least : nat_lt (length e.key) (length x.key) ≡ false = grind (arith, nat_tests, no_longer text x.key begins, ap length is) in
+        rw least refl

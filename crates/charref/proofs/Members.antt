@@ -41,9 +41,6 @@ pub record HasReadMembers (all rest : List Pair) (table : Entities) : Type 0 whe
   pub keys : map (λ e. e.key) table ≡ map string_bytes (keys_of done)
   pub passing : list_all is_table_entry table ≡ true
 
-pub read_no_members : (all : List Pair) → HasReadMembers all all []
-read_no_members all = record { done = []; are = refl; so_far = λ more. refl; keys = refl; passing = refl }
-
 pub read_member : (all left : List Pair) (pair : Pair) (table : Entities) (e : Entry) → HasReadMembers all (pair ∷ left) table → entry_of_json (string_bytes pair.0) (view pair.1) ≡ Ok e → e.key ≡ string_bytes pair.0 → is_table_entry e ≡ true
     → HasReadMembers all left (table ++ e ∷ [])
 read_member all left pair table e was is key passes = record {

@@ -1,6 +1,6 @@
 -- A name that has been read: its key, or none.
-use Rattle.charref.proofs.Names.{arith, ◌≡◌, ℕ, zero, suc, ◌-◌, ◌≤◌, ◌<◌, Bool, true, false, true≢false, ◌||◌, nat_eq, bytes_eq, bytes_eq-Decides, codes, List, [], ◌∷◌, ◌++◌, length, take, drop, slice_get, get_or, Some, refl, sym, ap, ◌∙◌, subst, take-append-drop, and_parts, and_from, nat_tests, starts_with, list_all, Placed, characters, begins, all, past, is_alphanumeric, Entry, Entities, IsTable, is_key, is_key_name, is_empty_list, ends_in_semicolon}
-use Rattle.std.proofs.Math.Seq.{drop-append_seam}
+use Rattle.charref.proofs.Names.{arith, ◌≡◌, ℕ, zero, suc, ◌-◌, ◌≤◌, ◌<◌, Bool, true, false, true≢false, ◌||◌, nat_eq, bytes_eq, bytes_eq-Decides, codes, List, [], ◌∷◌, ◌++◌, length, take, drop, slice_get, get_or, Some, refl, sym, ap, ◌∙◌, subst, take-append-drop, and_parts, and_from, nat_tests, starts_with, list_all, Placed, characters, begins, all, past, is_alphanumeric, Entry, Entities, IsTable, is_key, is_key_name, is_empty_list, ends_in_semicolon, ◌+◌, placed, is_empty}
+use Rattle.std.specs.Char.{len_utf8}
 -- under the name by which the crates above cite it
 pub use Rattle.names.proofs.Words.{all-append}
 
@@ -64,8 +64,14 @@ begins-drop [] ys n h lt = absurd (omega arith)
 begins-drop (p ∷ ps) ys zero h lt = (and_parts _ _ h).0
 begins-drop (p ∷ ps) ys (suc n) h lt = begins-drop ps ys n (and_parts _ _ h).1 (omega arith)
 
-pub drop-seam : (xs ys : List Placed) (n : ℕ) → n ≡ length xs → drop n (xs ++ ys) ≡ ys
-drop-seam xs ys n h = ap (λ k. drop k (xs ++ ys)) h ∙ drop-append_seam xs ys
+-- bytes as characters of a text
+pub characters-placed : (at : ℕ) (bytes : List ℕ) → characters (placed at bytes) ≡ bytes
+characters-placed at [] = refl
+characters-placed at (x ∷ xs) = ap (λ cs. x ∷ cs) (characters-placed (at + len_utf8 x) xs)
+
+pub some_placed : (at : ℕ) (bytes : List ℕ) → 0 < length bytes → is_empty (placed at bytes) ≡ false
+some_placed at [] some = absurd (omega arith)
+some_placed at (x ∷ xs) some = refl
 
 -- an element of a list passes where all do
 pub all_at : {A : Type 0} (test : A → Bool) (xs : List A) (k : ℕ) (x : A) → list_all test xs ≡ true → slice_get xs k ≡ Some x → test x ≡ true

@@ -1,5 +1,5 @@
 -- Numbers, digit by digit.
-use Rattle.charref.proofs.Names.{arith, ◌≡◌, ◌⊎◌, inl, inr, ℕ, ◌+◌, ◌-◌, ◌*◌, ◌≤◌, ◌<◌, min, Bool, true, false, not, ◌||◌, ◌==◌, nat_eq, nat_lt, List, [], ◌∷◌, ◌++◌, map, length, take, drop, Some, None, refl, sym, ap, ◌∙◌, subst, append_assoc, length-append, append-nil, and_parts, and_from, nat_tests, to_ascii_lowercase, all-one, begins-append, Placed, AbsenceOfDigitsInNumericCharacterReference, MissingSemicolonAfterCharacterReference, begins, stops, all, is_empty, is_digit, is_alphanumeric, error, error_if, Base, Decimal, Hexadecimal, One, Sign, sign_size, text_reference, Number, Entities, is_hex_digit, digit_value, begins_number, is_semicolon_if_any, IsReference, decimal, hexadecimal, no_digits, alone, is_digit_of, radix, IsSign, number_sign, IsHeldReference, after_sign, after_x, in_number, IsRead, errors_of, number_reference}
+use Rattle.charref.proofs.Names.{arith, ◌≡◌, ◌⊎◌, inl, inr, ℕ, ◌+◌, ◌-◌, ◌*◌, ◌≤◌, ◌<◌, min, Bool, true, false, not, ◌||◌, ◌==◌, nat_eq, nat_lt, List, [], ◌∷◌, ◌++◌, map, length, take, drop, Some, None, refl, sym, ap, ◌∙◌, subst, append_assoc, length-append, append-nil, and_parts, and_from, nat_tests, to_ascii_lowercase, all-one, begins-append, Placed, AbsenceOfDigitsInNumericCharacterReference, MissingSemicolonAfterCharacterReference, begins, stops, all, is_empty, is_digit, is_alphanumeric, error, error_if, Base, Decimal, Hexadecimal, One, Sign, sign_size, text_reference, Number, Entities, is_hex_digit, digit_value, begins_number, is_semicolon_if_any, IsReference, decimal, hexadecimal, no_digits, alone, is_digit_of, radix, IsSign, number_sign, IsHeldReference, after_x, in_number, IsRead, errors_of, number_reference}
 use Rattle.std.proofs.Common.{option_to_list}
 use Rattle.std.proofs.Math.Bool.{and-false}
 use Rattle.std.proofs.Math.Nat.{zero-mul}
@@ -11,15 +11,9 @@ use Rattle.charref.proofs.Telling.{no_run, read_text}
 
 -- SIGNS
 
-pub one_number_sign : (table : Entities) (in_value : Bool) (p : Placed) → p.ch ≡ 35 → IsHeldReference table in_value (Sign Decimal) (p ∷ [])
-one_number_sign table in_value p is = after_sign (p ∷ []) (number_sign p is)
-
 pub two_signs : (table : Entities) (in_value : Bool) (text : List Placed) (p : Placed) → IsSign Decimal text → (p.ch ≡ 120) ⊎ (p.ch ≡ 88) → IsHeldReference table in_value (Sign Hexadecimal) (text ++ p ∷ [])
 two_signs table in_value _ p (number_sign q is) (inl x) = after_x (q ∷ p ∷ []) (small_x q p is x)
 two_signs table in_value _ p (number_sign q is) (inr x) = after_x (q ∷ p ∷ []) (capital_x q p is x)
-
-begins_sign : (q : Placed) (rest : List Placed) → q.ch ≡ 35 → begins (λ c. c == 35) (q ∷ rest) ≡ true
-begins_sign q rest is = grind (arith, nat_tests)
 
 no_number_after : (q r : Placed) (rest : List Placed) → q.ch ≡ 35 → is_digit r.ch ≡ false → begins is_hex_digit rest ≡ false → begins_number (q ∷ r ∷ rest) ≡ false
 no_number_after q r rest is digit hex = let first : nat_eq q.ch 35 ≡ true = grind (arith, nat_tests) in rw (first, digit, hex) (and-false (nat_eq r.ch 120 || nat_eq r.ch 88))
@@ -36,7 +30,7 @@ first_no_digit Hexadecimal p after digit mark = digit
 module _ (table : Entities) (in_value : Bool) (others after : List Placed) where
   no_number : (q : Placed) (text : List Placed) (left : ℕ) → q.ch ≡ 35 → begins_number (q ∷ (text ++ after)) ≡ false → left ≡ length (q ∷ text)
       → IsRead table in_value (q ∷ text) after (text_reference left (Some AbsenceOfDigitsInNumericCharacterReference) false)
-  no_number q text left is none size = read_text table in_value (q ∷ text) after _ size refl (λ amp amp-is. no_digits amp amp-is (begins_sign q (text ++ after) is) none refl)
+  no_number q text left is none size = read_text table in_value (q ∷ text) after _ size refl (λ amp amp-is. no_digits amp amp-is (let sign : nat_eq q.ch 35 ≡ true = grind (arith, nat_tests, is) in sign) none refl)
 
   pub no_digits_after : (base : Base) (sign : List Placed) → IsSign base sign → IsNoDigit base (others ++ after)
       → IsRead table in_value (sign ++ others) after (text_reference (sign_size base + length others) (Some AbsenceOfDigitsInNumericCharacterReference) false)
@@ -60,9 +54,6 @@ pub alone_before : (table : Entities) (in_value : Bool) (p : Placed) (after : Li
 alone_before table in_value p after letter sign =
     read_text table in_value (p ∷ []) after _ refl refl (λ amp amp-is. alone amp amp-is (rw (letter, sign) refl) refl)
 
-pub alone_at_end : (table : Entities) (in_value : Bool) → IsRead table in_value [] [] (record { characters = One 38; left = 0; missing_semicolon = false; fault = None; is_ambiguous = false })
-alone_at_end table in_value = read_text table in_value [] [] _ refl refl (λ amp amp-is. alone amp amp-is refl refl)
-
 -- DIGITS
 
 pub number_from-more : (value base : ℕ) (digits : List Placed) (p : Placed) → number_from value base (digits ++ p ∷ []) ≡ number_from value base digits * base + digit_value p.ch
@@ -72,9 +63,6 @@ number_from-more value base (q ∷ qs) p = number_from-more (value * base + digi
 pub min-more : (base : Base) (n d : ℕ) → min (min n 0x110000 * radix base + d) 0x110000 ≡ min (n * radix base + d) 0x110000
 min-more Decimal n d = omega arith
 min-more Hexadecimal n d = omega arith
-
-pub min-digit : (d : ℕ) → d < 16 → d ≡ min d 0x110000
-min-digit d h = omega arith
 
 -- above the greatest code all numbers are as one
 great : (n : ℕ) → 0x110000 ≤ n → (numbered n ≡ 0xFFFD) × (number_fault n ≡ number_fault 0x110000)
@@ -89,12 +77,6 @@ min_same f n same = elim (cases_lt n 0x110000) [
   | inr past ↦ (let is : min n 0x110000 ≡ 0x110000 = omega arith in ap f is ∙ sym (same past))
 ]
 
-numbered-min : (n : ℕ) → numbered (min n 0x110000) ≡ numbered n
-numbered-min n = min_same numbered n (λ past. (great n past).0 ∙ sym (great 0x110000 (omega arith)).0)
-
-number_fault-min : (n : ℕ) → number_fault (min n 0x110000) ≡ number_fault n
-number_fault-min n = min_same number_fault n (λ past. (great n past).1)
-
 all-not-not : (test : ℕ → Bool) (xs : List Placed) → all test xs ≡ true → all (λ c. not (not (test c))) xs ≡ true
 all-not-not test [] h = refl
 all-not-not test (p ∷ ps) h = let first : test p.ch ≡ true = (and_parts _ _ h).0 in rw first (all-not-not test ps (and_parts _ _ h).1)
@@ -104,7 +86,7 @@ pub first_digit : (table : Entities) (in_value : Bool) (base : Base) (sign : Lis
     → IsHeldReference table in_value (Number base d) (sign ++ p ∷ [])
 first_digit table in_value base sign p d is test value small =
     in_number base d sign (p ∷ []) (sign ++ p ∷ []) refl is test (and_from _ _ test refl)
-    (min-digit d small ∙ ap (λ n. min n 0x110000) (value ∙ (let z : digit_value p.ch ≡ 0 * radix base + digit_value p.ch = omega (arith, zero-mul (radix base)) in z)))
+    (let whole : d ≡ min d 0x110000 = omega arith in whole ∙ ap (λ n. min n 0x110000) (value ∙ (let z : digit_value p.ch ≡ 0 * radix base + digit_value p.ch = omega (arith, zero-mul (radix base)) in z)))
 
 pub next_digit : (table : Entities) (in_value : Bool) (base : Base) (value : ℕ) (text : List Placed) (p : Placed) (d next : ℕ) → IsHeldReference table in_value (Number base value) text → is_digit_of base p.ch ≡ true → d ≡ digit_value p.ch
     → next ≡ min (value * radix base + d) 0x110000 → IsHeldReference table in_value (Number base next) (text ++ p ∷ [])
@@ -119,10 +101,10 @@ number_errors : (at value n : ℕ) (missing : Bool) → value ≡ min n 0x110000
     → errors_of (number_reference value left missing) at after ≡ error_if missing MissingSemicolonAfterCharacterReference at ++ map (λ code. error code at) (option_to_list (number_fault n))
 number_errors at value n missing is left after =
     append-nil (error_if missing MissingSemicolonAfterCharacterReference at ++ map (λ code. error code at) (option_to_list (number_fault value)))
-    ∙ ap (λ o. error_if missing MissingSemicolonAfterCharacterReference at ++ map (λ code. error code at) (option_to_list o)) (ap number_fault is ∙ number_fault-min n)
+    ∙ ap (λ o. error_if missing MissingSemicolonAfterCharacterReference at ++ map (λ code. error code at) (option_to_list o)) (ap number_fault is ∙ min_same number_fault n (λ past. (great n past).1))
 
 number_gives : (value n : ℕ) → value ≡ min n 0x110000 → numbered value ≡ numbered n
-number_gives value n is = ap numbered is ∙ numbered-min n
+number_gives value n is = ap numbered is ∙ min_same numbered n (λ past. (great n past).0 ∙ sym (great 0x110000 (omega arith)).0)
 
 number_reads : (table : Entities) (in_value : Bool) (base : Base) (sign digits close rest after : List Placed) (value left : ℕ) → IsSign base sign → begins (is_digit_of base) digits ≡ true → all (is_digit_of base) digits ≡ true
     → value ≡ min (number_from 0 (radix base) digits) 0x110000 → stops (λ c. not (is_digit_of base c)) (close ++ rest) ≡ true → is_semicolon_if_any close rest ≡ true

@@ -1,7 +1,7 @@
 -- A walk outside of a value goes on only while what it has taken may become a reference.
-use Rattle.charref.proofs.Names.{arith, ◌≡◌, ℕ, ◌<◌, true, false, List, [], ◌∷◌, ◌++◌, map, length, drop, Some, refl, sym, ap, ◌∙◌, append_assoc, append-nil, map-append, and_parts, slice_get_within, get_or_from_slice_get, Placed, characters, all, is_empty, is_alphanumeric, Base, Decimal, Hexadecimal, ReferenceState, number_sign, Number, Walk, Entry, Entities, IsTable, longest, named, named_piece, EntryGoesOn, key_bytes, IsSign, IsHeldReference, in_name, after_sign, after_x, in_number, IsOpenReference, IsRead, number_reference, WalkHasTaken}
+use Rattle.charref.proofs.Names.{arith, ◌≡◌, ℕ, ◌<◌, true, false, List, [], ◌∷◌, ◌++◌, length, drop, Some, refl, sym, ap, ◌∙◌, append_assoc, append-nil, map-append, and_parts, slice_get_within, get_or_from_slice_get, Placed, characters, all, is_empty, is_alphanumeric, Base, Decimal, Hexadecimal, ReferenceState, number_sign, Number, Walk, Entry, Entities, IsTable, longest, named, named_piece, EntryGoesOn, key_bytes, IsSign, IsHeldReference, in_name, after_sign, after_x, in_number, IsOpenReference, IsRead, number_reference, WalkHasTaken, placed, length-append}
 use Rattle.charref.proofs.Core.{has_found}
-use Rattle.charref.proofs.Naming.{rest_of_key}
+use Rattle.charref.proofs.Naming.{rest_of_key, characters-placed, some_placed}
 use Rattle.std.proofs.lemmas.List.{take_all}
 use Rattle.charref.proofs.Numbers.{first_digit, number_closed}
 
@@ -38,15 +38,6 @@ open_sign table amp Decimal text is sign = open_before table amp text (at_once 4
 open_sign table amp Hexadecimal text is sign = open_before table amp text (at_once 49) (open_number table amp Hexadecimal 1 (text ++ at_once 49 ∷ []) is (first_digit table false Hexadecimal text (at_once 49) 1 sign refl refl (omega arith)))
 
 -- a key that begins with the text, read to its end
-placed_again : (cs : List ℕ) → characters (map at_once cs) ≡ cs
-unfolding at_once
-placed_again [] = refl
-placed_again (c ∷ cs) = ap (λ ds. c ∷ ds) (placed_again cs)
-
-some_more : (cs ds : List ℕ) → length ds < length (ds ++ cs) → is_empty (map at_once cs) ≡ false
-some_more [] ds h = absurd (let e : ds ++ [] ≡ ds = append-nil ds in let s : length (ds ++ []) ≡ length ds = ap length e in omega arith)
-some_more (c ∷ cs) ds h = refl
-
 open_key : (table : Entities) (amp q : Placed) (qs : List Placed) → IsTable table → amp.ch ≡ 38 → is_alphanumeric q.ch ≡ true → EntryGoesOn table (key_bytes (q ∷ qs)) → IsOpenReference table amp (q ∷ qs)
 open_key table amp q qs is_table is letter goes =
     let e : Entry = goes.entry in
@@ -55,17 +46,17 @@ open_key table amp q qs is_table is letter goes =
     let key-is : e.key ≡ key_bytes text ++ extra = rest_of_key e.key (key_bytes text) goes.opens in
     let size : length e.key ≡ length (key_bytes text ++ extra) = ap length key-is in
     let longer : length (key_bytes text) < length e.key = goes.is_longer in
-    let all-is : characters (text ++ map at_once extra) ≡ characters text ++ extra = map-append (λ (p : Placed). p.ch) text (map at_once extra) ∙ ap (λ cs. characters text ++ cs) (placed_again extra) in
-    let whole-is : characters (amp ∷ (text ++ map at_once extra)) ≡ e.key = ap (λ c. c ∷ characters (text ++ map at_once extra)) is ∙ ap (λ cs. 38 ∷ cs) all-is ∙ sym key-is in
+    let all-is : characters (text ++ placed 0 extra) ≡ characters text ++ extra = map-append (λ (p : Placed). p.ch) text (placed 0 extra) ∙ ap (λ cs. characters text ++ cs) (characters-placed 0 extra) in
+    let whole-is : characters (amp ∷ (text ++ placed 0 extra)) ≡ e.key = ap (λ c. c ∷ characters (text ++ placed 0 extra)) is ∙ ap (λ cs. 38 ∷ cs) all-is ∙ sym key-is in
     let found : longest table e.key ≡ Some e = has_found table e is_table (goes.place, slice_get_within table goes.place e goes.stands, get_or_from_slice_get table goes.place e e goes.stands) in
     record {
-      more = map at_once extra;
+      more = placed 0 extra;
       rest = [];
-      piece = named_piece (amp ∷ (text ++ map at_once extra)) e;
-      is_more = some_more extra (key_bytes text) (omega arith);
+      piece = named_piece (amp ∷ (text ++ placed 0 extra)) e;
+      is_more = some_placed 0 extra (omega (arith, size, length-append (key_bytes text) extra));
       text_is = refl;
-      is_reference = named amp (text ++ map at_once extra) e is letter
-          (ap (λ (xs : List Placed). longest table (characters (amp ∷ xs))) (append-nil (text ++ map at_once extra)) ∙ ap (longest table) whole-is ∙ found) whole-is refl refl;
+      is_reference = named amp (text ++ placed 0 extra) e is letter
+          (ap (λ (xs : List Placed). longest table (characters (amp ∷ xs))) (append-nil (text ++ placed 0 extra)) ∙ ap (longest table) whole-is ∙ found) whole-is refl refl;
     }
 
 open_name : (table : Entities) (amp : Placed) (text : List Placed) → IsTable table → amp.ch ≡ 38 → all is_alphanumeric text ≡ true → (is_empty text ≡ false → EntryGoesOn table (key_bytes text)) → IsOpenReference table amp text

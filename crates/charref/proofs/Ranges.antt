@@ -1,5 +1,5 @@
 -- The range of the keys that begin with what was read, and how a byte narrows it.
-use Rattle.charref.proofs.Names.{arith, ◌≡◌, inl, inr, ℕ, ◌+◌, ◌≤◌, ◌<◌, true, ◌&&◌, nat_eq, nat_lt, nat_le, List, [], ◌∷◌, ◌++◌, length, slice_get, get_or, Some, option_map, Less, sym, ap, ◌∙◌, subst, and_parts, and_from, nat_tests, slice_get-get_or, slice_get_within, length-map, slice_cmp, nat_cmp, starts_with, some_same, Entity, Entry, Entities, entry, entries, code_at, IsSortedTable, IsRange, IsRising, IsParted, IsOver, IsEntity, All}
+use Rattle.charref.proofs.Names.{arith, ◌≡◌, inl, inr, ℕ, ◌+◌, ◌≤◌, ◌<◌, true, ◌&&◌, nat_eq, nat_lt, nat_le, List, [], ◌∷◌, ◌++◌, length, slice_get, get_or, Some, option_map, Less, sym, ap, ◌∙◌, subst, and_parts, and_from, nat_tests, slice_get-get_or, slice_get_within, length-map, slice_cmp, nat_cmp, starts_with, some_same, Entity, Entry, Entities, entry, entries, code_at, IsSortedTable, IsRange, IsRising, IsParted}
 use Rattle.std.proofs.lemmas.Bool.{cases_lt}
 use Rattle.std.proofs.lemmas.Option.{slice_get-map}
 use Rattle.charref.proofs.Keys.{code_at-le, starts_with-more, begins_later, in_order, begins_itself, IsOnly}
@@ -13,13 +13,6 @@ entry_in text es table k d is less got =
     let size : length (entries text es) ≡ length es = length-map es (entry text) in
     let same : length (entries text es) ≡ length table = ap length is in
     ap (λ t. slice_get t k) (sym is) ∙ entry_at text es k d (omega arith) ∙ ap (λ x. Some (entry text x)) (sym got)
-
--- and its key is not empty
-pub key_some : (text : List ℕ) (es : List Entity) (table : Entities) (k : ℕ) (d : Entity) → All (IsEntity text) es → entries text es ≡ table → k < length table → d ≡ get_or es k d → d.start < d.end
-key_some text es table k d all is less got =
-    let size : length (entries text es) ≡ length es = length-map es (entry text) in
-    let same : length (entries text es) ≡ length table = ap length is in
-    subst (λ (x : Entity). x.start < x.end) (sym got) (all k d (omega (arith, less, size, same))).some
 
 -- A search for the place that parts a range: it is known what is below `from`, and what is not below `to`.
 pub record IsPartedTo (table : Entities) (low from to high depth code : ℕ) : Type 0 where
@@ -79,10 +72,6 @@ range_more table bytes byte low high from to range a b c first second = record {
   exact = λ k e p. starts_with-more bytes byte e.key ∙ ap (λ t. t && nat_eq (byte + 1) (code_at e.key (length bytes))) (range.exact k e p)
       ∙ between low from to high k (code_at e.key (length bytes)) (byte + 1) a b c (first.below k e p) (first.above k e p) (λ h g. let less : code_at e.key (length bytes) < byte + 2 = second.below k e p h g in omega arith) (λ h g. let le : byte + 2 ≤ code_at e.key (length bytes) = second.above k e p h g in omega arith);
 }
-
--- Where the range is empty, no key goes on.
-pub range_over : (table : Entities) (bytes : List ℕ) (low high : ℕ) → IsRange table bytes low high → low ≡ high → IsOver table bytes
-range_over table bytes low high range none = record { no_more = λ k e p begins. absurd (let at : (low ≤ k) × (k < high) = within low high k (sym (range.exact k e p) ∙ begins) in omega (arith, at.0, at.1)) }
 
 -- the key that is what was read is first in the range
 pub only_first : (table : Entities) (bytes : List ℕ) (low high : ℕ) → IsSortedTable table → IsRange table bytes low high → IsOnly table bytes low

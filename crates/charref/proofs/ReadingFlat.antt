@@ -1,10 +1,9 @@
 -- Reading a flat form, entry by entry.
-use Rattle.charref.proofs.Names.{arith, ◌≡◌, ℕ, ◌+◌, ◌-◌, ◌*◌, ◌≤◌, ◌<◌, Bool, true, false, true≢false, ◌&&◌, nat_le, List, [], ◌∷◌, ◌++◌, map, length, take, drop, get_or, is_lt, Less, refl, sym, ap, ◌∙◌, subst, append_assoc, and_parts, and_from, nat_tests, append-nil, take-append-drop, take_rest, drop-drop, length-drop, map-append, slice_cmp, list_all, flat_map, Entity, Characters, characters_of, Entry, Entities, is_key, is_character, key_at, entry, entries, is_one_or_two, flat_character, flat_characters, flat_entry, flat_of, IsReadable, BeginsWith, BeginsWithNone, HasNoKey, IsOnlyKey, IsEntity, IsEntryTo, is_table_entry, entity_to, next_place, characters_in, All, length-append}
+use Rattle.charref.proofs.Names.{arith, ◌≡◌, ℕ, ◌+◌, ◌-◌, ◌*◌, ◌≤◌, ◌<◌, Bool, true, false, true≢false, ◌&&◌, nat_le, List, [], ◌∷◌, ◌++◌, map, length, take, drop, get_or, is_lt, Less, refl, sym, ap, ◌∙◌, subst, append_assoc, and_parts, and_from, nat_tests, append-nil, take-append-drop, take_rest, drop-drop, length-drop, map-append, slice_cmp, list_all, flat_map, Entity, Characters, characters_of, Entry, Entities, is_key, is_character, key_at, entry, entries, is_one_or_two, flat_character, flat_characters, flat_entry, flat_of, IsReadable, BeginsWith, BeginsWithNone, HasNoKey, IsEntity, IsEntryTo, is_table_entry, entity_to, next_place, characters_in, All, length-append}
 use Rattle.std.specs.List.Sorted.{IsStrictlySortedBy}
 use Rattle.std.proofs.Common.{nat_cmp, Ordering}
 use Rattle.std.proofs.lemmas.List.{drop_all, drop_more, get_or-drop, length-take-le}
 use Rattle.std.proofs.lemmas.List.Folds.{list_all-append}
-use Rattle.std.proofs.Math.Seq.{drop-append_seam}
 use Rattle.std.proofs.lemmas.List.Elements.{All-push}
 use Rattle.charref.proofs.Naming.{key_size}
 use Rattle.charref.proofs.Members.{readable_from, are_entries}
@@ -35,12 +34,6 @@ no_second bytes two none (c ∷ d ∷ e ∷ es) rest is same = (let many : get_o
 pub no_entry_key : (bytes : List ℕ) → HasNoKey bytes → BeginsWithNone is_table_entry flat_entry bytes
 no_entry_key bytes none e rest is same =
     none e.key (flat_characters e.stands_for ++ rest) (and_parts (is_key e.key) _ is).0 (count_follows e rest is) (same ∙ append_assoc e.key (flat_characters e.stands_for) rest)
-
-pub no_entry_characters : (bytes : List ℕ) (n : ℕ) → IsOnlyKey bytes n → BeginsWithNone is_one_or_two flat_characters (drop n bytes) → BeginsWithNone is_table_entry flat_entry bytes
-no_entry_characters bytes n key none e rest is same =
-    let split : bytes ≡ e.key ++ (flat_characters e.stands_for ++ rest) = same ∙ append_assoc e.key (flat_characters e.stands_for) rest in
-    let own : length e.key ≡ n = key.only e.key (flat_characters e.stands_for ++ rest) (and_parts (is_key e.key) _ is).0 (count_follows e rest is) split in
-    none e.stands_for rest (and_parts (is_key e.key) _ is).1 (ap (drop n) split ∙ ap (λ k. drop k (e.key ++ (flat_characters e.stands_for ++ rest))) (sym own) ∙ drop-append_seam e.key _)
 
 some_count : (cs : List ℕ) → is_one_or_two cs ≡ true → 1 ≤ length cs
 some_count [] is = absurd (true≢false (sym is))

@@ -1,21 +1,12 @@
 -- A search, byte by byte.
-use Rattle.charref.proofs.Names.{arith, ◌≡◌, ℕ, ◌+◌, ◌-◌, ◌≤◌, ◌<◌, true, false, nat_eq, List, [], ◌∷◌, ◌++◌, length, slice_get, Some, None, refl, sym, ap, ◌∙◌, subst, length-append, slice_get_within, starts_with, some_same, Search, Entry, Entities, longest, is_key, best_entry, IsSortedTable, IsRange, IsRising, IsParted, IsOver, EntryGoesOn, SearchHasRead}
+use Rattle.charref.proofs.Names.{arith, nat_tests, ◌≡◌, ℕ, ◌+◌, ◌-◌, ◌≤◌, ◌<◌, true, false, nat_eq, List, [], ◌∷◌, ◌++◌, length, slice_get, Some, None, refl, sym, ap, ◌∙◌, subst, length-append, slice_get_within, starts_with, some_same, Search, Entry, Entities, longest, is_key, best_entry, IsTable, IsSortedTable, IsRange, IsRising, IsParted, IsOver, EntryGoesOn, HasNone, SearchHasRead, get_or, take, drop, take_rest}
 use Rattle.charref.proofs.Keys.{whole, no_longer, begins_itself, longest-whole, longest-more, longest-none, longest-over}
-use Rattle.charref.proofs.Naming.{is_key_of, key_opens}
-use Rattle.charref.proofs.Ranges.{range_rises, rises_later, range_more, range_over, only_first, within, inside}
+use Rattle.charref.proofs.Naming.{Opens, is_key_of, key_opens}
+use Rattle.charref.proofs.Ranges.{range_rises, rises_later, range_more, only_first, within, inside}
 
 -- Every key begins with the `&`, and no key is the `&` alone.
-begins_with_ampersand : (key : List ℕ) → is_key key ≡ true → (starts_with nat_eq key (38 ∷ []) ≡ true) × (starts_with nat_eq (38 ∷ []) key ≡ false) × (starts_with nat_eq [] key ≡ false)
-begins_with_ampersand key is =
-    subst (λ k. (starts_with nat_eq k (38 ∷ []) ≡ true) × (starts_with nat_eq (38 ∷ []) k ≡ false) × (starts_with nat_eq [] k ≡ false)) (sym (key_opens key is).is) (refl, refl, refl)
-
-pub read_nothing : (table : Entities) (high : ℕ) → IsSortedTable table → high ≡ length table → SearchHasRead (record { depth = 0; low = 0; high = high; best = None }) table []
-read_nothing table high sorted all = record {
-  depth = refl;
-  range = record { ordered = omega arith; within = omega arith; exact = λ k e p. sym (inside 0 high k (omega arith) (let w : k < length table = slice_get_within table k e p in omega arith)) };
-  within = tt;
-  best = sym (longest-none table [] (λ k e at. (begins_with_ampersand e.key (is_key_of table k e sorted.is_table at)).2));
-}
+begins_with_ampersand : (key : List ℕ) → is_key key ≡ true → (starts_with nat_eq key (38 ∷ []) ≡ true) × (starts_with nat_eq (38 ∷ []) key ≡ false)
+begins_with_ampersand key is = rw (key_opens key is).is (refl, refl)
 
 pub read_ampersand : (table : Entities) (high : ℕ) → IsSortedTable table → high ≡ length table → SearchHasRead (record { depth = 1; low = 0; high = high; best = None }) table (38 ∷ [])
 read_ampersand table high sorted all = record {
@@ -73,9 +64,23 @@ module _ (table : Entities) (search : Search) (bytes : List ℕ) (byte from to :
         other e got at.1 (ap length is ∙ sym deeper)));
   }
 
--- What was read, where no key goes on, decides.
-pub read_over : (table : Entities) (search : Search) (bytes rest text : List ℕ) → SearchHasRead search table bytes → search.low ≡ search.high → text ≡ bytes ++ rest → best_entry table search.best ≡ longest table text
-read_over table search bytes rest text read none is = read.best ∙ sym (longest-over table bytes rest (range_over table bytes search.low search.high read.range none)) ∙ ap (longest table) (sym is)
+-- What was read decides where no key goes on with the next byte.
+pub read_past : (table : Entities) (search : Search) (bytes rest : List ℕ) (byte : ℕ) → SearchHasRead search table bytes → HasNone table (bytes ++ byte ∷ []) → best_entry table search.best ≡ longest table ((bytes ++ byte ∷ []) ++ rest)
+read_past table search bytes rest byte read none =
+    read.best ∙ sym (longest-more table bytes byte (λ k e at is. none.none k e at (subst (λ xs. starts_with nat_eq e.key xs ≡ true) is (begins_itself e.key))))
+    ∙ sym (longest-over table (bytes ++ byte ∷ []) rest (record { no_more = λ k e at opens. absurd (none.none k e at opens) }))
+
+-- A text that does not begin with `&` begins with no key.
+begins_elsewhere : (text key : List ℕ) → (0 < length text → get_or text 0 0 ≡ 38 → ⊥) → Opens key → starts_with nat_eq text key ≡ false
+begins_elsewhere [] key other opens = rw opens.is refl
+begins_elsewhere (c ∷ cs) key other opens = let differs : nat_eq 38 c ≡ false = (let no : c ≡ 38 → ⊥ = other (omega arith) in grind (arith, nat_tests)) in rw (opens.is, differs) refl
+
+pub none_elsewhere : (table : Entities) (text : List ℕ) → IsTable table → (0 < length text → get_or text 0 0 ≡ 38 → ⊥) → None ≡ longest table text
+none_elsewhere table text is_table other = sym (longest-none table text (λ k e at. begins_elsewhere text e.key other (key_opens e.key (is_key_of table k e is_table at))))
+
+pub text_of : (text : List ℕ) → 1 ≤ length text → get_or text 0 0 ≡ 38 → text ≡ 38 ∷ take (length text - 1) (drop 1 text)
+text_of [] some is = absurd (omega arith)
+text_of (c ∷ cs) some is = ap (λ (x : ℕ). x ∷ cs) is ∙ ap (λ (xs : List ℕ). 38 ∷ xs) (sym (take_rest (c ∷ cs) 1))
 
 -- The last key of the range is longer than what was read where any is.
 pub last_longer : (table : Entities) (search : Search) (bytes : List ℕ) (e : Entry) → SearchHasRead search table bytes → search.low < search.high → slice_get table (search.high - 1) ≡ Some e → search.depth < length e.key → EntryGoesOn table bytes
@@ -104,4 +109,4 @@ last_over table search bytes e sorted read open' got size =
     }
 
 pub none_over : (table : Entities) (search : Search) (bytes : List ℕ) → SearchHasRead search table bytes → search.high ≤ search.low → IsOver table bytes
-none_over table search bytes read none = range_over table bytes search.low search.high read.range (let o : search.low ≤ search.high = read.range.ordered in omega arith)
+none_over table search bytes read none = record { no_more = λ k e p begins. absurd (let at : (search.low ≤ k) × (k < search.high) = within search.low search.high k (sym (read.range.exact k e p) ∙ begins) in omega (arith, at.0, at.1)) }

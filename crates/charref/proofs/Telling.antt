@@ -2,7 +2,7 @@
 use Rattle.charref.proofs.Names.{arith, ◌≡◌, ◌⊎◌, inl, inr, ℕ, suc, ◌+◌, ◌-◌, ◌≤◌, ◌<◌, Bool, true, false, true≢false, not, ◌&&◌, ◌||◌, ◌==◌, cond, nat_eq, nat_lt, List, [], ◌∷◌, ◌++◌, length, take, drop, slice_get, Some, None, refl, sym, ap, ◌∙◌, subst, append_assoc, length-append, append-nil, map-append, length-map, take-append-drop, and_parts, and_from, nat_tests, starts_with, some_same, begins-append, Placed, MissingSemicolonAfterCharacterReference, UnknownNamedCharacterReference, characters, begins, all, is_empty, past, is_alphanumeric, is_equals, error_if, Alphanumeric, Semicolon, Equals, Other, Reference, Characters, One, Entry, Entities, IsTable, longest, ends_in_semicolon, is_kept_as_text, IsReference, named, kept, unknown, key_bytes, IsSettled, last_of, is_kept_before, IsRead, characters_of, errors_of, unknown_of}
 use Rattle.std.proofs.Math.Bool.{or-true, and-false}
 use Rattle.std.proofs.lemmas.Bool.{cases_order}
-use Rattle.std.proofs.lemmas.List.{drop_all, drop-append-le}
+use Rattle.std.proofs.lemmas.List.{drop_all, drop-append-le, drop_at}
 use Rattle.names.proofs.Words.{all-append}
 use Rattle.names.specs.declared.error.ParseError.{ParseError}
 use Rattle.charref.specs.declared.last.Last.{Last}
@@ -10,7 +10,7 @@ use Rattle.charref.specs.Last.{goes_on_name}
 use Rattle.charref.proofs.Keys.{no_longer}
 use Rattle.charref.proofs.Core.{longest_among}
 use Rattle.charref.proofs.Extending.{letter_of}
-use Rattle.charref.proofs.Naming.{key_of, take-map, past-run, begins-drop, drop-seam, is_key_of, Opens, key_opens, some_key}
+use Rattle.charref.proofs.Naming.{key_of, take-map, past-run, begins-drop, is_key_of, Opens, key_opens, some_key}
 
 begins_first : (test : ℕ → Bool) (name : List Placed) (c : ℕ) (cs : List ℕ) → characters name ≡ c ∷ cs → begins test name ≡ test c
 begins_first test [] c cs h = absurd (cc)
@@ -76,9 +76,6 @@ module _ (table : Entities) (in_value : Bool) (text after : List Placed) (is_tab
   joined : take (length e.key - 1) text ++ (drop (length e.key - 1) text ++ after) ≡ text ++ after
   joined = sym (append_assoc (take (length e.key - 1) text) (drop (length e.key - 1) text) after) ∙ ap (λ xs. xs ++ after) (take-append-drop (length e.key - 1) text)
 
-  text_opens : begins is_alphanumeric (text ++ after) ≡ true
-  text_opens = subst (λ xs. begins is_alphanumeric xs ≡ true) joined (begins-append is_alphanumeric (take (length e.key - 1) text) (drop (length e.key - 1) text ++ after) name_opens)
-
   no_more : (xs : List ParseError) → xs ++ [] ++ [] ≡ xs
   no_more xs = append-nil (xs ++ []) ∙ append-nil xs
 
@@ -101,7 +98,7 @@ module _ (table : Entities) (in_value : Bool) (text after : List Placed) (is_tab
       → IsRead table in_value text after (record { characters = One 38; left = left; missing_semicolon = false; fault = None; is_ambiguous = false })
   read_kept left left-is keeps =
       read_text table in_value text after _ left-is refl (λ amp is.
-      kept amp e is text_opens (always amp is (text ++ after) refl)
+      kept amp e is (subst (λ xs. begins is_alphanumeric xs ≡ true) joined (begins-append is_alphanumeric (take (length e.key - 1) text) (drop (length e.key - 1) text ++ after) name_opens)) (always amp is (text ++ after) refl)
       (let size : length e.key ≤ length text + 1 = most in ap (is_kept_as_text in_value e.key) (drop-append-le (length e.key - 1) text after (omega arith)) ∙ keeps) refl)
 
 last_follows : (c : ℕ) → (is_equals c || is_alphanumeric c) ≡ goes_on_name (last_of c)
@@ -130,7 +127,7 @@ is_kept_at in_value front p after key n left run most left-is whole = by (cases_
         rw (begins-is, many)
     by (inl is) =
         let one : left ≡ 1 = omega (arith, size) in
-        rw (drop-seam front (p ∷ []) n is, one, last_follows p.ch)
+        rw (drop_at front (p ∷ []) n (sym is), one, last_follows p.ch)
     by (inr (inr past)) =
         let none : left ≡ 0 = omega (arith, size) in
         let gone : drop n (front ++ p ∷ []) ≡ [] = drop_all n (front ++ p ∷ []) (omega (arith, size)) in

@@ -19,12 +19,12 @@ x_ascii : (c : ℕ) → (c ≡ 120) ⊎ (c ≡ 88) → is_ascii c ≡ true
 x_ascii c (inl h) = ap is_ascii h
 x_ascii c (inr h) = ap is_ascii h
 
-pub x_taken : (bytes : List ℕ) (x : ℕ) → HasSign Decimal bytes 1 → 1 < length bytes → x ≡ get_or bytes 1 0 → (x ≡ 120) ⊎ (x ≡ 88) → HasSign Hexadecimal bytes 2
-x_taken bytes x before within same is = record {
+pub x_taken : (bytes : List ℕ) → HasSign Decimal bytes 1 → 1 < length bytes → (get_or bytes 1 0 ≡ 120) ⊎ (get_or bytes 1 0 ≡ 88) → HasSign Hexadecimal bytes 2
+x_taken bytes before within is = record {
   few = omega arith;
-  ascii = run_more is_ascii bytes 1 within before.ascii (x_ascii (get_or bytes 1 0) (subst (λ c. (c ≡ 120) ⊎ (c ≡ 88)) same is));
+  ascii = run_more is_ascii bytes 1 within before.ascii (x_ascii (get_or bytes 1 0) is);
   sign = λ at. subst (IsSign Hexadecimal) (sym (more_bytes bytes 1 within at))
-      (held_sign [] false Hexadecimal (placed at (take 1 bytes) ++ last_at at bytes 1 ∷ []) (two_signs [] false (placed at (take 1 bytes)) (last_at at bytes 1) (before.sign at) (subst (λ c. (c ≡ 120) ⊎ (c ≡ 88)) same is)));
+      (held_sign [] false Hexadecimal (placed at (take 1 bytes) ++ last_at at bytes 1 ∷ []) (two_signs [] false (placed at (take 1 bytes)) (last_at at bytes 1) (before.sign at) is));
 }
 
 -- DIGITS
@@ -41,6 +41,9 @@ pub record HasDigits (base : Base) (bytes : List ℕ) (start count value : ℕ) 
   pub ascii : list_all is_ascii (take count bytes) ≡ true
   pub none : count ≡ start → value ≡ 0
   pub some : start < count → (table : Entities) (at : ℕ) → IsHeldReference table false (Number base value) (placed at (take count bytes))
+
+pub no_digit_yet : (base : Base) (bytes : List ℕ) (start : ℕ) → HasSign base bytes start → HasDigits base bytes start start 0
+no_digit_yet base bytes start sign = record { after = omega arith; few = sign.few; small = omega arith; ascii = sign.ascii; none = λ same. refl; some = λ less. absurd (omega arith) }
 
 pub one_digit_more : (base : Base) (bytes : List ℕ) (start count value byte d next : ℕ) → HasSign base bytes start → HasDigits base bytes start count value → count < length bytes → byte ≡ get_or bytes count 0
     → is_digit_of base byte ≡ true → d ≡ digit_value byte → d < 16 → next ≡ min (value * radix base + d) 0x110000 → HasDigits base bytes start (count + 1) next

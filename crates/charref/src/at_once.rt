@@ -1,14 +1,13 @@
 //! What the bytes after an `&` settle of it, outside an attribute value.
 
-ghost use Rattle.std.specs.Prelude.{◌≡◌, ◌<◌, ◌≤◌, ℕ, List, true, false, length, take, IfSome, IsNone, IsTrue, MatchOption};
-ghost use Rattle.charref.specs.Vocabulary.{is_ascii, list_all, Placed, placed, IsTable, IsRead, is_search_within, HasSign, HasWhole, Settles, SettlesNothing};
+ghost use Rattle.std.specs.Prelude.{◌≡◌, ◌<◌, ◌≤◌, ℕ, List, true, false, length, take, IfSome, IsNone, MatchOption};
+ghost use Rattle.charref.specs.Vocabulary.{is_ascii, list_all, Entities, Placed, placed, IsTable, IsRead, number_reference, HasSign, HasWhole, Settles, SettlesNothing};
 
-use crate::flat::Flat;
 use crate::last::Last;
 use crate::number::{Base, is_alphanumeric};
 use crate::reference::Reference;
-use crate::search::Search;
 use crate::slots::is_whole;
+use crate::starts::starting;
 use crate::table::Table;
 use crate::walk::Walk;
 use crate::walking::{decided, number, unknown};
@@ -26,19 +25,23 @@ impl<'t> Walk<'t> {
             → IsRead table.now false (placed at (take it.1 bytes.now)) after it.0) }
         ensures none { IsNone result → SettlesNothing table.now bytes.now }
     {
+        let starts = &table.starts;
+        if let [b'#', ..] = bytes {
+            let (value, count) = whole_number(bytes);
+            if count > 0 {
+                return Some((number(value, 0, false), count));
+            }
+        }
         if let Some(first) = bytes.first()
-            && let Some(search) = Search::after_first(
-                &table.flat,
-                &table.starts,
-                char::from(*first),
-            )
+            && first.is_ascii()
         {
-            if search.is_over() {
-                if is_alphanumeric(*first) {
-                    return Some((unknown(1, Last::Alphanumeric), 1));
+            let (low, high) = starting(starts, *first);
+            if low < high {
+                if let Some(place) = whole_place(table, low, high, bytes) {
+                    return Some(whole_key(table, place));
                 }
-            } else if let Some(place) = whole_place(table, search, bytes) {
-                return Some(whole_key(table, place));
+            } else if is_alphanumeric(*first) {
+                return Some((unknown(1, Last::Alphanumeric), 1));
             }
         }
         // (taken apart and put together again: so the result comes back in registers, and not through memory)
@@ -50,42 +53,27 @@ impl<'t> Walk<'t> {
 }
 
 /// The place of a key that ends in a `;` and with all of which, after its `&`, these bytes begin, if one is found at once: the
-/// only one of this search, or by its hash. No longer key begins with it, so nothing that comes after it matters.
-#[inline(always)]
-fn whole_place(table: &Table, search: Search, bytes: &[u8]) -> Option<usize>
-    requires { is_search_within search (length table.now) ≡ true }
+/// only one of this range, or by its hash. No longer key begins with it, so nothing that comes after it matters.
+#[inline(never)]
+fn whole_place(table: &Table, low: usize, high: usize, bytes: &[u8]) -> Option<usize>
+    requires { (low < high) × (high ≤ length table.now) }
     ensures { IfSome result (HasWhole table.now bytes.now) }
 {
-    if search.high - search.low != 1 {
+    if high - low != 1 {
         return table.slots.place_of(&table.flat, bytes);
     }
-    if is_whole_by_itself(&table.flat, search.low, bytes) {
-        Some(search.low)
+    if is_whole(&table.flat, low, bytes) {
+        Some(low)
     } else {
         None
     }
 }
 
-/// Whether the key at this place ends in a `;`, and these bytes begin with all of it after its `&`; out of line, since what calls it
-/// is large.
-#[inline(never)]
-fn is_whole_by_itself(flat: &Flat, index: usize, bytes: &[u8]) -> bool
-    requires table { IsTable flat.now }
-    requires within { index < length flat.now }
-    ensures { IsTrue result → HasWhole flat.now bytes.now index }
-{
-    is_whole(flat, index, bytes)
-}
-
-/// What is at an `&` before these bytes, and how many of them settle it: a number, a key without a `;`, or what the steps of a walk
-/// give.
+/// What is at an `&` before these bytes, and how many of them settle it: a key without a `;`, or what the steps of a walk give.
 #[inline(never)]
 fn settled_otherwise(table: &Table, bytes: &[u8]) -> Option<(Reference, usize)>
     ensures { MatchOption result (SettlesNothing table.now bytes.now) (λ it. Settles table.now bytes.now it.1 it.0) }
 {
-    if let [b'#', ..] = bytes {
-        return settled_number(table, bytes);
-    }
     match settled_by_key(table, bytes) {
         Some(it) => Some(it),
         None => settled_by_steps(table, bytes),
@@ -144,27 +132,16 @@ fn settled_by_steps(table: &Table, bytes: &[u8]) -> Option<(Reference, usize)>
     None
 }
 
-/// What is at an `&` before these bytes, the first of them a `#`, and how many of them settle it.
-#[inline(always)]
-fn settled_number(table: &Table, bytes: &[u8]) -> Option<(Reference, usize)>
+/// The number after the `#` at the front of these bytes, where a `;` ends it, and how many of them are its own; else 0 of them.
+#[inline(never)]
+fn whole_number(bytes: &[u8]) -> (u32, usize)
     requires { HasSign Base.Decimal bytes.now 1 }
-    ensures { MatchOption result (SettlesNothing table.now bytes.now) (λ it. Settles table.now bytes.now it.1 it.0) }
+    ensures { 0 < result.1 → (table : Entities) → Settles table bytes.now result.1 (number_reference result.0 0 false) }
 {
-    if let Some(second) = bytes.get(1) {
-        let second = *second;
-        if second == b'x' || second == b'X' {
-            return number_after(table, Base::Hexadecimal, bytes, 2);
-        }
-    }
-    number_after(table, Base::Decimal, bytes, 1)
-}
-
-/// The same, where the digits, in this base, begin at `start`: at once if there is one and a `;` follows them.
-#[inline(always)]
-fn number_after(table: &Table, base: Base, bytes: &[u8], start: usize) -> Option<(Reference, usize)>
-    requires { HasSign base bytes.now start }
-    ensures { MatchOption result (SettlesNothing table.now bytes.now) (λ it. Settles table.now bytes.now it.1 it.0) }
-{
+    let (base, start) = match bytes {
+        [_, b'x' | b'X', ..] => (Base::Hexadecimal, 2),
+        _ => (Base::Decimal, 1),
+    };
     let mut value = 0;
     let mut count = start;
     while count < bytes.len() {
@@ -176,7 +153,7 @@ fn number_after(table: &Table, base: Base, bytes: &[u8], start: usize) -> Option
         count += 1;
     }
     if count == start || count == bytes.len() || bytes[count] != b';' {
-        return settled_by_steps(table, bytes);
+        return (0, 0);
     }
-    Some((number(value, 0, false), count + 1))
+    (value, count + 1)
 }

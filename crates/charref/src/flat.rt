@@ -48,7 +48,6 @@ impl Flat {
         &self.text
     }
 
-    /// How many entries there are.
     #[inline(always)]
     pub(crate) fn len(&self) -> usize
         ensures { result ≡ length self.now }
@@ -56,7 +55,6 @@ impl Flat {
         self.entities.len()
     }
 
-    /// The key of an entry.
     #[inline(always)]
     pub(crate) fn key(&self, index: usize) -> &[u8]
         requires { index < length self.now }
@@ -66,7 +64,6 @@ impl Flat {
         &self.text[entity.start as usize..entity.end as usize]
     }
 
-    /// The characters that the key of an entry stands for.
     #[inline(always)]
     pub(crate) fn characters(&self, index: usize) -> Characters
         requires { index < length self.now }

@@ -25,6 +25,7 @@ pub(crate) fn key_at_front(bytes: &[u8]) -> Option<usize>
 }
 
 /// Whether this is a key: `&`, one or more letters and digits, and at most one `;`.
+#[tactic(auto, using(crate::proofs::Fronts::whole_key, crate::proofs::Fronts::none_whole))]
 pub(crate) fn is_key(key: &[u8]) -> bool
     ensures { result ≡ is_key key.now }
 {
@@ -34,7 +35,6 @@ pub(crate) fn is_key(key: &[u8]) -> bool
     }
 }
 
-/// How many bytes are compared at once.
 pub(crate) const AT_ONCE: usize = 16;
 
 /// Whether the key of so many bytes at the front of some bytes is before that at the front of other bytes: 16 bytes of each are compared at once.
@@ -62,6 +62,7 @@ pub(crate) fn is_key_before(bytes: &[u8], size: usize, others: &[u8], other_size
 
 /// Whether these bytes begin with this many bytes of a name: 16 are compared at once.
 #[inline(always)]
+#[tactic(auto, using(crate::proofs::Begins::all_alike))]
 pub(crate) fn begin_at_once(bytes: &[u8], name: &[u8], count: usize) -> bool
     requires bytes { AT_ONCE ≤ length bytes.now }
     requires name { AT_ONCE ≤ length name.now }

@@ -96,7 +96,9 @@ pub(crate) fn numbered(value: u32) -> char
 pub(crate) fn number_fault(value: u32) -> Option<ErrorCode>
     ensures { result ≡ number_fault value }
 {
-    if value == 0 {
+    if matches!(value, 0x20..=0x7E | 0xA0..=0xD7FF) {
+        None
+    } else if value == 0 {
         Some(ErrorCode::NullCharacterReference)
     } else if value > 0x10_FFFF {
         Some(ErrorCode::CharacterReferenceOutsideUnicodeRange)

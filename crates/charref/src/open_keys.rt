@@ -2,7 +2,7 @@
 //! `&notin;`. Stored are the look-ups that have read them, by the first two letters of their names.
 
 ghost use Rattle.std.specs.Prelude.{◌≡◌, ◌+◌, ◌<◌, length, get_or, slice_get, Some, IfOk, IfSome};
-ghost use Rattle.charref.specs.Vocabulary.{All, AreEnds, Entities, Entry, IsOpenKey, IsOpenKeyOf, IsRange, IsSortedTable};
+ghost use Rattle.charref.specs.Vocabulary.{All, AreEnds, Entry, IsOpenKey, IsOpenKeyOf, IsRange, IsSortedTable};
 
 use crate::flat::Flat;
 use crate::search::{Search, code_at};
@@ -83,28 +83,24 @@ fn open_key(flat: &Flat, index: usize, ends: &[usize]) -> OpenKey
 }
 
 impl OpenKeys {
-    /// No keys, among which none is found.
-    pub(crate) fn none(alloc: Global) -> OpenKeys
-        ensures { (table : Entities) → All (IsOpenKey table) result.read.items }
-    {
-        OpenKeys {
-            read: Vec::new(alloc),
-            counts: Vec::new(alloc),
-        }
-    }
-
-    /// The keys of a table.
-    pub(crate) fn new(alloc: Global, flat: &Flat) -> Result<OpenKeys, AllocError>
+    /// The keys of a table, or none, among which none is found.
+    pub(crate) fn new(alloc: Global, flat: &Flat, indexed: bool) -> Result<OpenKeys, AllocError>
         requires { IsSortedTable flat.now }
         ensures { IfOk result (λ keys. All (IsOpenKey flat.now) keys.read.items) }
     {
+        let mut keys = OpenKeys {
+            read: Vec::new(alloc),
+            counts: Vec::new(alloc),
+        };
+        if !indexed {
+            return Ok(keys);
+        }
         let mut ends = vec![in alloc; 0usize; flat.len()]?;
         let mut first = flat.len();
         while first > 0 {
             first -= 1;
             ends[first] = end_of(flat, first, &ends);
         }
-        let mut keys = OpenKeys::none(alloc);
         for place in 0..flat.len() {
             if ends[place] > place + 1 {
                 keys.read.push(open_key(flat, place, &ends))?;

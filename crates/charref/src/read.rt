@@ -19,6 +19,7 @@ fn codepoint(value: &Value) -> Option<char>
 }
 
 /// The characters of a list of one or two numbers.
+#[tactic(auto, using(crate::proofs::KeyTexts::codepoints_none))]
 fn codepoints(list: &[Value]) -> Option<Characters>
     ensures value { option_map characters_of result ≡ codepoints (items_view list.now) }
     ensures few { IfSome result (λ it. is_one_or_two (characters_of it) ≡ true) }
@@ -30,7 +31,6 @@ fn codepoints(list: &[Value]) -> Option<Characters>
     }
 }
 
-/// The list and the text of an entry, if it is an object that has both.
 fn fields(value: &Value) -> Option<(&Vec<Value>, &str)>
     ensures { option_map (λ pair. (items_view pair.0.now.items, pair.1.now)) result ≡ fields (view value.now) }
 {

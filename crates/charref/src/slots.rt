@@ -14,7 +14,6 @@ const FEW: usize = 16;
 /// A table of more entries than this has no more slots.
 const MANY: usize = 32_768;
 
-/// How many slots are tried for a name.
 const SLOTS_TRIED: u32 = 8;
 
 /// The `;` of a name is looked for among so many bytes: the longest name of HTML's table has one letter less.
@@ -49,30 +48,19 @@ fn hash_of(name: &[u8]) -> u32
     hash >> 16
 }
 
-/// Where the first `;` of these bytes is, if it is among the first ones; else any place. What is found by it is compared with the key.
+/// Where a `;` is that may end the name at the front of these bytes. What is found by it is compared with the key.
 #[inline(always)]
-fn semicolon_place(bytes: &[u8]) -> usize {
-    let mut count = 0;
-    while count < LONGEST && bytes.len() - count >= 16 {
-        let found = u8x16::from_slice(&bytes[count..])
-            .simd_eq(u8x16::splat(b';'))
-            .to_bitmask();
-        if found != 0 {
-            return count + found.trailing_zeros() as usize;
-        }
-        count += 16;
+fn semicolon_place(bytes: &[u8]) -> Option<usize> {
+    if bytes.len() < LONGEST {
+        return bytes.iter().position(|byte| *byte == b';');
     }
-    semicolon_from(bytes, count)
-}
-
-/// The same, from `start` on, a byte at a time.
-#[inline(always)]
-fn semicolon_from(bytes: &[u8], start: usize) -> usize {
-    let mut place = start;
-    while place < LONGEST && place < bytes.len() && bytes[place] != b';' {
-        place += 1;
+    let found = u8x32::from_slice(bytes)
+        .simd_eq(u8x32::splat(b';'))
+        .to_bitmask();
+    if found == 0 {
+        return None;
     }
-    place
+    Some(found.trailing_zeros() as usize)
 }
 
 /// Whether the key at this place ends in a `;`, and these bytes begin with all of it after its `&`.
@@ -86,18 +74,15 @@ pub(crate) fn is_whole(flat: &Flat, index: usize, bytes: &[u8]) -> bool
 }
 
 impl Slots {
-    /// No slots, in which nothing is found.
-    pub(crate) fn none(alloc: Global) -> Slots {
-        Slots {
-            places: Vec::new(alloc),
-        }
-    }
-
-    /// The slots of a table.
-    pub(crate) fn new(alloc: Global, flat: &Flat) -> Result<Slots, AllocError> {
+    /// The slots of a table, or none, in which nothing is found.
+    pub(crate) fn new(alloc: Global, flat: &Flat, indexed: bool) -> Result<Slots, AllocError> {
         let mut slots = Slots {
-            places: vec![in alloc; 0u16; slots_for(flat.len())]?,
+            places: Vec::new(alloc),
         };
+        if !indexed {
+            return Ok(slots);
+        }
+        slots.places.resize(slots_for(flat.len()), 0)?;
         for place in 0..flat.len() {
             let Ok(kept) = u16::try_from(place + 1) else {
                 return Ok(slots);
@@ -128,12 +113,12 @@ impl Slots {
     }
 
     /// The place of a key that ends in a `;` and with all of which, after its `&`, these bytes begin, if a slot has it.
-    #[inline(never)]
+    #[inline(always)]
     pub(crate) fn place_of(&self, flat: &Flat, bytes: &[u8]) -> Option<usize>
         requires { IsTable flat.now }
         ensures { IfSome result (HasWhole flat.now bytes.now) }
     {
-        let count = semicolon_place(bytes);
+        let count = semicolon_place(bytes)?;
         if count < 2 || count >= bytes.len() {
             return None;
         }

@@ -1,7 +1,7 @@
 //! The index of the bytes after the `&`.
 
-ghost use Rattle.std.specs.Prelude.{◌≡◌, Some, slice_get, IfOk};
-ghost use Rattle.charref.specs.Vocabulary.{Entry, code_at, IsSortedTable, IsIndex};
+ghost use Rattle.std.specs.Prelude.{◌≡◌, ◌<◌, [], ◌∷◌, length, Some, slice_get, IfOk};
+ghost use Rattle.charref.specs.Vocabulary.{Entities, Entry, code_at, IsSortedTable, IsIndex, IsRange};
 
 use crate::flat::Flat;
 use crate::search::{code_at, first_from};
@@ -38,4 +38,16 @@ pub(crate) fn starts_of(alloc: Global, flat: &Flat) -> Result<Vec<usize>, AllocE
         starts.push_reserved(place);
     }
     Ok(starts)
+}
+
+/// The range of the keys that begin with an `&` and this byte, by the index of their table.
+#[inline(always)]
+pub(crate) fn starting(starts: &[usize], byte: u8) -> (usize, usize)
+    requires index { length starts.now ≡ CODES }
+    requires ascii { byte < 128 }
+    ensures { (table : Entities) → IsSortedTable table → IsIndex table starts.now CODES
+        → IsRange table (38 ∷ byte ∷ []) result.0 result.1 }
+{
+    let code = usize::from(byte) + 1;
+    (starts[code], starts[code + 1])
 }

@@ -86,6 +86,7 @@ const CORE: &[u8] =
 
 impl Table {
     /// The table of the five entries that the serializer relies on: `&amp;`, `&gt;`, `&lt;`, `&nbsp;` and `&quot;`.
+    #[tactic(auto, using(crate::proofs::Forms::reads_table, crate::proofs::Core::core_readable))]
     pub fn core(alloc: Global) -> Result<Table, Refusal>
         ensures ok { IfOk result (λ table. table ≡ core) }
         ensures err { IfErr result (λ e. e ≡ Refusal.Memory) }
@@ -121,16 +122,8 @@ impl Table {
     {
         let flat = Flat::read(alloc, bytes)?;
         let starts = starts_of(alloc, &flat)?;
-        if !indexed {
-            return Ok(Table {
-                flat,
-                starts,
-                slots: Slots::none(alloc),
-                open_keys: OpenKeys::none(alloc),
-            });
-        }
-        let slots = Slots::new(alloc, &flat)?;
-        let open_keys = OpenKeys::new(alloc, &flat)?;
+        let slots = Slots::new(alloc, &flat, indexed)?;
+        let open_keys = OpenKeys::new(alloc, &flat, indexed)?;
         Ok(Table {
             flat,
             starts,
@@ -154,7 +147,7 @@ impl Table {
         ensures found { MatchOption result (longest self.now text.now ≡ None)
             (λ found. (e : Entry) × (longest self.now text.now ≡ Some e) × (found.length ≡ length e.key) × (characters_of found.characters ≡ e.stands_for)) }
     {
-        let best = search_for(&self.flat, text).best?;
+        let best = search_for(self, text)?;
         Some(Match {
             length: self.flat.key(best).len(),
             characters: self.flat.characters(best),

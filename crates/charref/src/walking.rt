@@ -1,7 +1,7 @@
 //! The steps of a walk.
 
-ghost use Rattle.std.specs.Prelude.{◌≡◌, ◌+◌, [], ◌∷◌, ◌++◌, Bool, true, false, ◌&&◌, ℕ, List, length, Some, IfSome, IsSome, IsNone, MatchOption, ◌<◌, ◌≤◌};
-ghost use Rattle.charref.specs.Vocabulary.{Placed, all, is_empty, is_alphanumeric, Entities, IsTable, longest, ends_in_semicolon, best_entry, is_search_within, has_read_key, SearchHasRead, HasNone, key_bytes, is_number, IsHeldReference, IsSign, sign_size, last_of, IsSettled, IsRead, text_reference, unknown_of, number_reference, WalkHasTaken, TakesCharacter, NextIs, LeavesLast, StaysNumber, is_next_within};
+ghost use Rattle.std.specs.Prelude.{◌≡◌, ◌+◌, [], ◌∷◌, ◌++◌, Bool, true, false, ◌&&◌, ℕ, List, length, Some, IfSome, IsSome, MatchOption, ◌<◌, ◌≤◌};
+ghost use Rattle.charref.specs.Vocabulary.{Placed, all, is_empty, is_alphanumeric, Entities, IsTable, longest, ends_in_semicolon, best_entry, is_search_within, has_read_key, SearchHasRead, key_bytes, is_number, IsHeldReference, IsSign, sign_size, last_of, IsSettled, IsRead, text_reference, unknown_of, number_reference, WalkHasTaken, TakesCharacter, NextIs, LeavesLast, StaysNumber, is_next_within};
 
 use crate::last::{Last, is_kept};
 use crate::number::{Base, TOO_GREAT, number_fault, numbered};
@@ -28,7 +28,7 @@ impl<'t> Walk<'t> {
         Walk {
             table,
             in_value,
-            state: ReferenceState::Name(Search::after_ampersand(&table.flat)),
+            state: ReferenceState::Name(Search::after_ampersand(table)),
         }
     }
 
@@ -42,7 +42,8 @@ impl<'t> Walk<'t> {
         ensures number { is_number self.old.state ≡ true → MatchOption result (is_number self.new.state ≡ true) LeavesLast }
     {
         if let ReferenceState::Name(search) = self.state
-            && let Some(next) = longer(self.table, search, ch)
+            && let Some(next) = search.extended(self.table, ch)
+            && next.goes_on(self.table)
         {
             self.state = ReferenceState::Name(next);
             return None;
@@ -85,7 +86,14 @@ impl<'t> Walk<'t> {
         ensures number { is_number self.now.state ≡ true → result.left ≡ 0 }
     {
         match self.state {
-            ReferenceState::Name(search) => name_at_end(self.table, self.in_value, search),
+            ReferenceState::Name(search) if search.depth <= 1 => as_text(0, None, false),
+            ReferenceState::Name(search) => decided(
+                self.table,
+                self.in_value,
+                search.best,
+                search.depth - 1,
+                Last::Alphanumeric,
+            ),
             ReferenceState::Sign(base) => no_digits(base, 0),
             ReferenceState::Number(_, value) => number(value, 0, true),
         }
@@ -121,8 +129,8 @@ fn no_digits(base: Base, others: usize) -> Reference
     )
 }
 
-/// Whether a key ends in a `;`.
 #[inline(always)]
+#[tactic(auto, using(crate::proofs::Naming::ends_at))]
 pub(crate) fn ends_in_semicolon(key: &[u8]) -> bool
     ensures { result ≡ ends_in_semicolon key.now }
 {
@@ -174,6 +182,7 @@ pub(crate) fn decided(
 }
 
 /// A numeric reference: the numeric character reference end state (`#numeric-character-reference-end-state`).
+#[inline(always)]
 pub(crate) fn number(value: u32, left: usize, missing_semicolon: bool) -> Reference
     ensures { result ≡ number_reference value left missing_semicolon }
 {
@@ -225,39 +234,6 @@ fn after_digits(base: Base, value: u32, ch: char) -> Next
     }
 }
 
-/// The look-up after one more character, if some key may begin with it: right after the `&`, by the table's index.
-#[inline(always)]
-fn extended(table: &Table, search: Search, ch: char) -> Option<Search>
-    requires { is_search_within search (length table.now) ≡ true }
-    ensures within { IfSome result (λ next. is_search_within next (length table.now) ≡ true) }
-    ensures read { IfSome result (λ next. (bytes : List ℕ) → SearchHasRead search table.now (38 ∷ bytes)
-        → SearchHasRead next table.now (38 ∷ bytes ++ ch ∷ [])) }
-    ensures none { IsNone result → (bytes : List ℕ) → SearchHasRead search table.now (38 ∷ bytes)
-        → HasNone table.now (38 ∷ bytes ++ ch ∷ []) }
-{
-    if search.depth == 1 {
-        Search::after_first(&table.flat, &table.starts, ch)
-    } else {
-        search.extended(&table.flat, ch)
-    }
-}
-
-/// The look-up after one more character, if some key begins with what was read then and is longer.
-#[inline(always)]
-pub(crate) fn longer(table: &Table, search: Search, ch: char) -> Option<Search>
-    requires { is_search_within search (length table.now) ≡ true }
-    ensures within { IfSome result (λ next. is_search_within next (length table.now) ≡ true) }
-    ensures held { IfSome result (λ next. (in_value : Bool) (text : List Placed) (p : Placed) → SearchHasRead search table.now (key_bytes text)
-        → p.ch ≡ ch → IsHeldReference table.now in_value (ReferenceState.Name next) (text ++ p ∷ [])) }
-{
-    let next = extended(table, search, ch)?;
-    if next.goes_on(&table.flat) {
-        Some(next)
-    } else {
-        None
-    }
-}
-
 /// The character reference state (`#character-reference-state`), and after the beginning of a name the named character reference
 /// state (`#named-character-reference-state`).
 #[inline(always)]
@@ -274,33 +250,14 @@ fn after_name(table: &Table, in_value: bool, search: Search, ch: char) -> Next
         }
         return Next::Ended(as_text(1, None, false));
     }
-    let Some(next) = extended(table, search, ch) else {
+    let Some(next) = search.extended(table, ch) else {
         return Next::Ended(decided(table, in_value, search.best, search.depth, last));
     };
-    if next.goes_on(&table.flat) {
+    if next.goes_on(table) {
         return Next::Goes(ReferenceState::Name(next));
     }
-    if in_value && last.is_alphanumeric() && next.has_read_key(&table.flat) {
+    if in_value && last.is_alphanumeric() && next.has_read_key(table) {
         return Next::Goes(ReferenceState::Name(next));
     }
     Next::Ended(decided(table, in_value, next.best, search.depth, last))
-}
-
-/// The beginning of a name, at the end of the text.
-fn name_at_end(table: &Table, in_value: bool, search: Search) -> Reference
-    requires { is_search_within search (length table.now) ≡ true }
-    ensures { (text : List Placed) → SearchHasRead search table.now (key_bytes text) → all is_alphanumeric text ≡ true
-        → IsRead table.now in_value text [] result }
-{
-    if search.depth <= 1 {
-        as_text(0, None, false)
-    } else {
-        decided(
-            table,
-            in_value,
-            search.best,
-            search.depth - 1,
-            Last::Alphanumeric,
-        )
-    }
 }

@@ -1,9 +1,6 @@
 use Rattle.charref.proofs.Names.{false, sym, ◌∙◌, arith}
-use Rattle.charref.proofs.AtOnce.{nothing_settled, walk_settles, walked_more, walked_nothing}
+use Rattle.charref.proofs.AtOnce.{nothing_settled, walk_settles, walked_more}
 use Rattle.charref.proofs.at_once.settled_by_steps.Goals as goal
-
-pub loop-count-init : goal.loop-count-init
-loop-count-init c = walked_nothing _ c.args.table.now c.args.bytes.now c.new-walk.ensures.taken
 
 pub returns-in-Some-clause-settles : goal.returns-in-Some-clause-settles
 returns-in-Some-clause-settles c =

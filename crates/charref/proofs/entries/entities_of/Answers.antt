@@ -1,5 +1,4 @@
-use Rattle.charref.proofs.Names.{arith, ◌≡◌, ◌∷◌, ◌+◌, ◌*◌, ◌≤◌, length, false, inr, refl, sym, ◌∙◌, subst, [], nat_tests, entries, entity_to, key_at, next_place, flat_of, List, ℕ, ◌++◌, ap, append-nil}
-use Rattle.std.proofs.lemmas.List.{drop_all}
+use Rattle.charref.proofs.Names.{arith, ◌≡◌, ◌∷◌, ◌+◌, ◌*◌, ◌≤◌, length, false, inr, refl, sym, ◌∙◌, subst, [], nat_tests, entity_to, key_at, next_place, List, ℕ, ◌++◌, ap}
 use Rattle.charref.proofs.ReadingFlat.{HasReadTo, begun, keys_before, one_more, no_entry, no_order}
 use Rattle.charref.proofs.entries.entities_of.Goals as goal
 
@@ -41,10 +40,3 @@ loop-start-preserved c =
       key = omega (arith, c.in-Some.ensures.some);
       later = omega arith;
     }
-
-pub returns-clause-ok : goal.returns-clause-ok
-returns-clause-ok c =
-    let l = c.loop-start in
-    let es = entries c.args.text.now l.entities.items in
-    let read = l.invariant.read in
-    (read.readable, sym (read.is ∙ ap (λ (x : List ℕ). flat_of es ++ x) (drop_all l.start c.args.text.now c.loop-start-test.false) ∙ append-nil (flat_of es)), read.inside)

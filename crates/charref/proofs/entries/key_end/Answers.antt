@@ -1,16 +1,9 @@
-use Rattle.charref.proofs.Names.{take_rest, drop-drop, ap, ◌∙◌, ◌≡◌, ℕ, ◌+◌, ◌-◌, ◌*◌, List, length, take, drop, subst, BeginsWith, BeginsWithNone, IsOnlyKey, characters_of, is_table_entry, is_one_or_two, flat_entry, flat_characters}
-use Rattle.charref.proofs.ReadingFlat.{no_entry_key, no_entry_characters, entry_stands}
+use Rattle.charref.proofs.Names.{take_rest, drop-drop, ap, ◌∙◌, ◌≡◌, ℕ, ◌+◌, ◌-◌, ◌*◌, List, length, take, drop, subst, BeginsWith, BeginsWithNone, IsOnlyKey, characters_of, is_table_entry, flat_entry, flat_characters}
+use Rattle.charref.proofs.ReadingFlat.{no_entry_key, entry_stands}
 use Rattle.charref.proofs.entries.key_end.Goals as goal
 
 pub returns-in_err-size : goal.returns-in_err-size
 returns-in_err-size c = rw c.from_residual.ensures (subst (BeginsWithNone is_table_entry flat_entry) (take_rest c.args.text.now c.args.start) (no_entry_key _ c.in_err-size.ensures))
-
-pub returns-in_err-characters_at_front : goal.returns-in_err-characters_at_front
-returns-in_err-characters_at_front c =
-    let text : List ℕ = c.args.text.now in
-    let rest : List ℕ = take (length text - c.args.start) (drop c.args.start text) in
-    rw c.from_residual-in_err-characters_at_front.ensures (subst (BeginsWithNone is_table_entry flat_entry) (take_rest text c.args.start)
-    (no_entry_characters rest c.in_ok-size.size c.in_ok-size.ensures (subst (BeginsWithNone is_one_or_two flat_characters) (take_rest rest c.in_ok-size.size) c.in_err-characters_at_front.ensures)))
 
 pub returns : goal.returns
 returns c =

@@ -1,14 +1,8 @@
-use Rattle.charref.proofs.Names.{arith, rules, ◌≡◌, ℕ, ◌+◌, ◌-◌, ◌≤◌, List, length, length-drop, take, drop, take_rest, sym, ap, ◌∙◌, is_alphanumeric}
-use Rattle.std.specs.List.{prefix_len}
+use Rattle.charref.proofs.Names.{arith, rules, ◌≡◌, ℕ, ◌+◌, ◌-◌, ◌≤◌, List, length, length-drop, take, drop, take_rest, ap, ◌∙◌, is_alphanumeric}
 use Rattle.std.proofs.lemmas.List.Sums.{prefix_len-le-length}
-use Rattle.charref.proofs.Fronts.{found_key, closed, open_end, no_key}
+use Rattle.charref.proofs.Fronts.{found_key, closed, open_end}
 use Rattle.charref.proofs.key.key_at_front.Goals as goal
 use Rattle.charref.proofs.key.key_at_front.Goals.{else-end-name-via-then-end-name+else-name-end-eq59, else-end-name-via-else-end-name}
-
-pub returns-then-end-eq0 : goal.returns-then-end-eq0
-returns-then-end-eq0 c =
-    let none : prefix_len is_alphanumeric (drop 1 c.args.bytes.now) ≡ 0 = ap (prefix_len is_alphanumeric) (sym (take_rest c.args.bytes.now 1)) ∙ sym c.alphanumeric_run-end.ensures ∙ c.if-end-eq0.true in
-    no_key c.args.bytes.now (λ some first. none)
 
 pub returns-then-name-end-eq59 : goal.returns-then-name-end-eq59
 returns-then-name-end-eq59 c =
@@ -31,9 +25,3 @@ returns c =
       | else-end-name-via-then-end-name+else-name-end-eq59 w ↦ w.if-name-end-eq59.false close
       | else-end-name-via-else-end-name w ↦ absurd (omega (arith, less, w.if-end-name.false))
     ])) (omega arith)
-
-pub returns-in_default : goal.returns-in_default
-returns-in_default c = no_key c.args.bytes.now (λ some first. absurd (omega arith))
-
-pub returns-in_default-2 : goal.returns-in_default-2
-returns-in_default-2 c = no_key c.args.bytes.now (λ some first. absurd (omega arith))

@@ -1,16 +1,11 @@
-use Rattle.charref.proofs.Names.{rules, ◌≡◌, [], ◌∷◌, ◌++◌, string_bytes, sym, ap, ◌∙◌, subst, Entities, entry_of_json, IsRefusedWith, flat_entry, view}
+use Rattle.charref.proofs.Names.{rules, [], ◌∷◌, ◌++◌, string_bytes, sym, ap, ◌∙◌, subst, Entities, entry_of_json, IsRefusedWith, flat_entry, view}
 use Rattle.std.specs.List.Sorted.{IsStrictlySortedBy}
 use Rattle.std.specs.Map.{keys_of}
 use Rattle.std.specs.String.{string_cmp}
 use Rattle.std.proofs.lemmas.Result.{err_from_is_err_and}
 use Rattle.charref.proofs.Forms.{flat_more}
-use Rattle.charref.proofs.Members.{Pair, HasReadMembers, read_no_members, read_member, read_refused, read_all, readable_table}
+use Rattle.charref.proofs.Members.{Pair, HasReadMembers, read_member, read_refused, read_all, readable_table}
 use Rattle.charref.proofs.read.flat_of.Goals as goal
-
-pub loop-key-init : goal.loop-key-init
-loop-key-init c =
-    let all : c.into_iter-key-iterator.result ≡ c.args.members.now.entries = search rules in
-    ([], subst (λ rest. HasReadMembers c.args.members.now.entries rest []) (sym all) (read_no_members c.args.members.now.entries), c.in_ok-flat.ensures.items)
 
 pub loop-key-preserved : goal.loop-key-preserved
 loop-key-preserved c =

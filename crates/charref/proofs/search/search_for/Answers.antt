@@ -1,18 +1,23 @@
-use Rattle.charref.proofs.Names.{take, drop, sym, subst, take-append-drop, take_more, SearchHasRead}
-use Rattle.charref.proofs.Searching.{read_nothing, read_over}
+use Rattle.charref.proofs.Names.{arith, ◌∷◌, take, drop, length, refl, sym, ap, ◌∙◌, subst, take-append-drop, take_more, SearchHasRead, ℕ, List, ◌+◌, ◌-◌, ◌++◌, longest}
+use Rattle.charref.proofs.Searching.{none_elsewhere, read_past, text_of}
 use Rattle.charref.proofs.search.search_for.Goals as goal
 
-pub loop-byte-init : goal.loop-byte-init
-loop-byte-init c = read_nothing c.args.flat.now _ c.requires.sorted c.len.ensures
+pub returns-in_default-clause-best : goal.returns-in_default-clause-best
+returns-in_default-clause-best c = none_elsewhere c.args.table.now c.args.text.now c.after_ampersand-search.ensures.table (λ some first. absurd (omega arith))
 
-pub returns-then-is_over-clause-best : goal.returns-then-is_over-clause-best
-returns-then-is_over-clause-best c = read_over c.args.flat.now c.loop-byte.search (take c.loop-byte.byte-index c.args.text.now) (drop c.loop-byte.byte-index c.args.text.now) c.args.text.now
-    c.loop-byte.invariant (c.is_over.ensures.0 c.if-is_over.true) (sym (take-append-drop c.loop-byte.byte-index c.args.text.now))
+pub returns-in_default-2-clause-best : goal.returns-in_default-2-clause-best
+returns-in_default-2-clause-best c = none_elsewhere c.args.table.now c.args.text.now c.after_ampersand-search.ensures.table (λ some first. absurd (omega arith))
 
 pub loop-byte-preserved : goal.loop-byte-preserved
 loop-byte-preserved c =
-    let i = c.loop-byte.byte-index in
-    subst (SearchHasRead c.narrow.new.self c.args.flat.now) (sym (take_more c.args.text.now i 0 c.loop-byte-test.true)) (c.narrow.ensures.read (take i c.args.text.now) c.loop-byte.invariant)
+    subst (λ bs. SearchHasRead c.in-Some.next c.args.table.now (38 ∷ bs)) (sym (take_more _ c.loop-byte.byte-index 0 c.loop-byte-test.true)) (rw c.from.ensures at (c.in-Some.ensures.read _ c.loop-byte.invariant))
 
-pub narrow-requires-clause-within : goal.narrow-requires-clause-within
-narrow-requires-clause-within c = (c.loop-byte.invariant.range.ordered, c.loop-byte.invariant.range.within)
+pub returns-in-None-clause-best : goal.returns-in-None-clause-best
+returns-in-None-clause-best c =
+    let text = c.args.text.now in
+    let name : List ℕ = take (length text - 1) (drop 1 text) in
+    let i = c.loop-byte.byte-index in
+    let none = rw c.from.ensures at (c.in-None.ensures.none refl (take i name) c.loop-byte.invariant) in
+    read_past c.args.table.now c.loop-byte.search (38 ∷ take i name) (drop (i + 1) name) _ c.loop-byte.invariant none
+    ∙ ap (λ (xs : List ℕ). longest c.args.table.now (38 ∷ xs ++ drop (i + 1) name)) (sym (take_more name i 0 c.loop-byte-test.true)) ∙ ap (λ (xs : List ℕ). longest c.args.table.now (38 ∷ xs)) (take-append-drop (i + 1) name)
+    ∙ ap (longest c.args.table.now) (sym (text_of text c.in-38.len_at_least (omega arith)))

@@ -1,4 +1,4 @@
-use Rattle.charref.proofs.Names.{◌≡◌, arith, ◌+◌, slice_get, sym, ap, ◌∙◌, subst, Entities, IsIndex, IsRising, IsParted, IsStart}
+use Rattle.charref.proofs.Names.{arith, ◌+◌, slice_get, sym, ap, ◌∙◌, subst, Entities, IsIndex, IsRising, IsParted, IsStart}
 use Rattle.charref.proofs.Indexing.{start_at, start_moved, start_more, below_next}
 use Rattle.charref.proofs.starts.starts_of.Goals as goal
 use Rattle.charref.proofs.starts.starts_of.Goals.{then-here-code, else-here-code}
@@ -22,6 +22,3 @@ loop-code-preserved c =
         | else-here-code w ↦ λ e got. w.here-is ∙ l.invariant.here e (ap (slice_get table) (sym w.place-is) ∙ got)
       ];
     }
-
-pub returns : goal.returns
-returns c = let end : c.loop-code.code ≡ 130 = omega arith in subst (IsIndex c.args.flat.now c.loop-code.starts.items) end c.loop-code.invariant.index

@@ -1,15 +1,14 @@
-use Rattle.charref.proofs.Names.{arith, nat_tests, nat_eq, Decimal, Sign, IsRead, ◌≡◌, [], ◌∷◌, ◌++◌, true, false, true≢false, ◌&&◌, refl, sym, ap, ◌∙◌, subst, ◌≤◌, length, all-one, characters, is_empty, is_alphanumeric, Entities, IsTable, has_read_key, SearchHasRead, HasNone, IsOver, key_bytes, in_name, last_of, is_letter_or_digit, NextIs}
+use Rattle.charref.proofs.Names.{arith, nat_tests, nat_eq, Decimal, Sign, IsRead, ◌≡◌, [], ◌∷◌, ◌++◌, true, false, true≢false, ◌&&◌, refl, sym, ap, ◌∙◌, subst, all-one, characters, is_empty, is_alphanumeric, Entities, IsTable, has_read_key, SearchHasRead, HasNone, IsOver, key_bytes, in_name, last_of, is_letter_or_digit, NextIs, after_sign, number_sign}
 use Rattle.std.proofs.Math.Bool.{and-false}
 use Rattle.charref.proofs.Extending.{key_bytes-more, held_longer, best_before, settled_before, best_after, settled_after, letter_of, nothing_read, something_read, count_read}
-use Rattle.charref.proofs.Indexing.{is_within}
 use Rattle.charref.specs.declared.walking.Next.TheVariants.{Goes}
-use Rattle.charref.proofs.Numbers.{one_number_sign, alone_before}
+use Rattle.charref.proofs.Numbers.{alone_before}
 use Rattle.charref.proofs.walking.after_name.Goals as goal
 use Rattle.charref.proofs.walking.after_name.Goals.{else-in_value-via-then-in_value+then-is_alphanumeric+else-has_read_key, else-in_value-via-then-in_value+else-is_alphanumeric, else-in_value-via-else-in_value, else-search-eq1-via-then-search-eq1+else-not-is_alphanumeric, else-search-eq1-via-else-search-eq1}
 
 pub returns-then-ch-eq35-clause-next : goal.returns-then-ch-eq35-clause-next
 returns-then-ch-eq35-clause-next c = λ text p read run is.
-    subst (λ xs. NextIs c.args.table.now c.args.in_value (xs ++ p ∷ []) (Goes (Sign Decimal))) (sym (nothing_read text (sym read.depth ∙ c.if-search-eq1.true))) (one_number_sign c.args.table.now c.args.in_value p (is ∙ c.if-ch-eq35.true))
+    subst (λ xs. NextIs c.args.table.now c.args.in_value (xs ++ p ∷ []) (Goes (Sign Decimal))) (sym (nothing_read text (sym read.depth ∙ c.if-search-eq1.true))) (after_sign (p ∷ []) (number_sign p (is ∙ c.if-ch-eq35.true)))
 
 pub returns-then-not-is_alphanumeric-clause-next : goal.returns-then-not-is_alphanumeric-clause-next
 returns-then-not-is_alphanumeric-clause-next c = λ text p read run is after.
@@ -32,8 +31,7 @@ returns-in_default-clause-next c = λ text p read run is after.
 
 pub returns-then-goes_on-clause-next : goal.returns-then-goes_on-clause-next
 returns-then-goes_on-clause-next c = λ text p read run is.
-    held_longer c.args.table.now c.args.in_value c.in-Some.next text p c.args.ch (subst IsTable c.table.view_is c.table.invariant.0.sorted.is_table) is (c.in-Some.ensures.read (characters text) read)
-    (λ bytes now. (rw c.table.view_is at c.goes_on.ensures.open) bytes now c.if-goes_on.true)
+    held_longer c.args.table.now c.args.in_value c.in-Some.next text p c.args.ch c.goes_on.ensures.table is (c.in-Some.ensures.read (characters text) read) (λ bytes now. c.goes_on.ensures.open bytes now c.if-goes_on.true)
 
 pub returns-then-has_read_key-clause-next : goal.returns-then-has_read_key-clause-next
 returns-then-has_read_key-clause-next c = λ text p read run is.
@@ -47,13 +45,13 @@ pub returns-clause-next : goal.returns-clause-next
 returns-clause-next c = λ text p read run is after.
     let table : Entities = c.args.table.now in
     let next : SearchHasRead c.in-Some.next table (key_bytes text ++ p.ch ∷ []) = subst (λ x. SearchHasRead c.in-Some.next table (key_bytes text ++ x ∷ [])) (sym is) (c.in-Some.ensures.read (characters text) read) in
-    let over : IsOver table (key_bytes text ++ p.ch ∷ []) = (rw c.table.view_is at c.goes_on.ensures.over) _ next c.if-goes_on.false in
-    let is_table : IsTable table = subst IsTable c.table.view_is c.table.invariant.0.sorted.is_table in
+    let over : IsOver table (key_bytes text ++ p.ch ∷ []) = c.goes_on.ensures.over _ next c.if-goes_on.false in
+    let is_table : IsTable table = c.goes_on.ensures.table in
     let letter : is_letter_or_digit c.of-last.result ≡ is_alphanumeric p.ch = ap is_letter_or_digit c.of-last.ensures ∙ letter_of c.args.ch ∙ ap is_alphanumeric (sym is) in
     let waits : (c.args.in_value && is_alphanumeric p.ch && has_read_key table c.in-Some.next) ≡ false =
     elim c.else-in_value.branch [
       | else-in_value-via-then-in_value+then-is_alphanumeric+else-has_read_key w ↦
-          ap (λ b. c.args.in_value && is_alphanumeric p.ch && b) (ap (λ t. has_read_key t c.in-Some.next) (sym c.table.view_is) ∙ sym w.has_read_key.ensures ∙ w.if-has_read_key.false) ∙ and-false _
+          ap (λ b. c.args.in_value && is_alphanumeric p.ch && b) (sym w.has_read_key.ensures ∙ w.if-has_read_key.false) ∙ and-false _
       | else-in_value-via-then-in_value+else-is_alphanumeric w ↦
           ap (λ b. c.args.in_value && b && has_read_key table c.in-Some.next) (sym letter ∙ sym w.is_alphanumeric-then-in_value.ensures ∙ w.if-is_alphanumeric.false) ∙ ap (λ b. b && has_read_key table c.in-Some.next) (and-false _)
       | else-in_value-via-else-in_value w ↦ ap (λ b. b && is_alphanumeric p.ch && has_read_key table c.in-Some.next) w.if-in_value.false
@@ -64,14 +62,3 @@ returns-clause-next c = λ text p read run is after.
     ]) in
     c.decided-2.ensures text p after run first (count_read text p c.args.search.depth read.depth) (c.of-last.ensures ∙ ap last_of (sym is))
     (best_after table c.args.in_value text after p is_table c.in-Some.next next over waits) (settled_after table c.args.in_value text after p is_table c.in-Some.next next over waits)
-
-pub decided-requires : goal.decided-requires
-decided-requires c = (is_within c.args.search _ c.requires).2
-
-pub goes_on-requires-clause-within : goal.goes_on-requires-clause-within
-goes_on-requires-clause-within c =
-    let w = is_within c.in-Some.next _ c.in-Some.ensures.within in
-    (w.0, subst (λ (t : Entities). c.in-Some.next.high ≤ length t) (sym c.table.view_is) w.1)
-
-pub decided-requires-2 : goal.decided-requires-2
-decided-requires-2 c = (is_within c.in-Some.next _ c.in-Some.ensures.within).2
