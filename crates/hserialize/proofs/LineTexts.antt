@@ -1,11 +1,5 @@
 -- Lines that are put together of parts.
-use Rattle.hserialize.proofs.Names.{◌≡◌, ℕ, suc, ◌+◌, ◌-◌, ◌<◌, ◌≤◌, ◌&&◌, false, cond, List, [], ◌∷◌, ◌++◌, length, drop, get_or, map, sym, ap, ◌∙◌, arith, append_assoc, flat_map, repeat, codes, Attribute, attribute_line, indented, pair_of, drop-cons, add-one, Bor, between_quotes, identifiers, is_empty_text}
-
--- a line by its spaces: at first, after two more, and at the end
-pub first_level : (depth : ℕ) (words : List ℕ) → indented depth words ≡ codes "| " ++ (repeat (depth - 0) (codes "  ") ++ (words ++ codes "\n"))
-first_level depth words =
-    append_assoc (codes "| " ++ repeat depth (codes "  ")) words (codes "\n")
-    ∙ (let all : depth ≡ depth - 0 = omega arith in ap (λ n. codes "| " ++ (repeat n (codes "  ") ++ (words ++ codes "\n"))) all)
+use Rattle.hserialize.proofs.Names.{◌≡◌, ℕ, suc, ◌+◌, ◌-◌, ◌<◌, ◌≤◌, List, ◌∷◌, ◌++◌, length, drop, get_or, map, sym, ap, ◌∙◌, arith, append_assoc, flat_map, repeat, codes, Attribute, attribute_line, indented, pair_of, drop-cons, add-one, Bor, between_quotes}
 
 pub no_level : (depth level : ℕ) (after : List ℕ) → depth ≤ level → repeat (depth - level) (codes "  ") ++ after ≡ after
 no_level depth level after h = let none : depth - level ≡ 0 = omega arith in ap (λ n. repeat n (codes "  ") ++ after) none
@@ -23,16 +17,6 @@ pub next_attribute : (depth : ℕ) (xs : List (Bor (List ℕ) × ℕ × Bor (Lis
 next_attribute depth xs i d name value h n v =
     ap (λ l. flat_map (attribute_line depth) (map pair_of l)) (drop-cons xs i d h ∙ (λ k. get_or xs i d ∷ drop (sym (add-one i) k) xs))
     ∙ ap (λ t. t ++ flat_map (attribute_line depth) (map pair_of (drop (i + 1) xs))) (sym ((λ k. indented depth (n k ++ (codes "=\"" ++ (v k ++ codes "\"")))) ∙ attribute_parts depth (get_or xs i d).0.now (get_or xs i d).2.now))
-
-pub doctype_parts : (depth : ℕ) (name public_id system_id : List ℕ) → is_empty_text public_id && is_empty_text system_id ≡ false
-    → indented depth (codes "<!DOCTYPE " ++ (name ++ (codes " \"" ++ (public_id ++ (codes "\" \"" ++ (system_id ++ codes "\">"))))))
-    ≡ indented depth (codes "<!DOCTYPE " ++ name ++ identifiers public_id system_id ++ codes ">")
-doctype_parts depth name public_id system_id some =
-    ap (indented depth)
-    (ap (λ t. codes "<!DOCTYPE " ++ (name ++ (codes " \"" ++ t))) (sym (append_assoc public_id (codes "\" \"" ++ (system_id ++ codes "\"")) (codes ">") ∙ ap (λ t. public_id ++ (codes "\" \"" ++ t)) (append_assoc system_id (codes "\"") (codes ">"))))
-    ∙ ap (λ t. codes "<!DOCTYPE " ++ (name ++ (codes " \"" ++ (t ++ codes ">")))) (sym (append_assoc (public_id ++ codes "\"") (codes " ") (between_quotes system_id) ∙ append_assoc public_id (codes "\"") (codes " " ++ between_quotes system_id)))
-    ∙ sym (append_assoc (codes "<!DOCTYPE " ++ name) (codes " " ++ between_quotes public_id ++ codes " " ++ between_quotes system_id) (codes ">"))
-    ∙ ap (λ u. codes "<!DOCTYPE " ++ name ++ cond u [] (codes " " ++ between_quotes public_id ++ codes " " ++ between_quotes system_id) ++ codes ">") (sym some))
 
 -- the line of an element, and those of its attributes
 pub element_parts : (depth : ℕ) (name lent : List ℕ) (attrs sorted : List (Attribute (List ℕ))) → lent ≡ name → sorted ≡ attrs

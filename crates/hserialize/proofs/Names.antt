@@ -19,7 +19,7 @@ pub use Rattle.hserialize.specs.Lines.{tree_lines, attribute_put_in, between_quo
 pub use Rattle.hserialize.specs.Output.{Fails, AddsBytes, Taken, text_written, text_cut, EndsOutput, IsBegun, AppendsBeginning, no_buffer}
 pub use Rattle.hserialize.specs.Plain.{Inside, inside_element, in_context, in_context_of, inside_node, is_plain_node, are_content, begins_with_text, is_plain_text, is_a, content_within, begins_with, has_part, is_plain_name_byte, is_plain_name, are_content_if, begins_with_line_feed, drops_line_feed, is_plain}
 pub use Rattle.hserialize.specs.PlainDocument.{ends_document, is_leaf, leaves_then, comments_then, doctype_then, element_then, is_metadata, inside_head, are_metadata, are_in_html, body_on, html_on, is_plain_document}
-pub use Rattle.hserialize.specs.Printing.{one_less, depth_after, IsOpenVisit, visit_lines, attribute_count}
+pub use Rattle.hserialize.specs.Printing.{one_less, depth_after, visit_lines, attribute_count}
 pub use Rattle.hserialize.specs.Regions.{without_form, begins_region, form_after, have_plain_regions, makes_form}
 pub use Rattle.hserialize.specs.Testing.{tag_or_other, is_text_node, is_text_at, has_plain_name, ArePlainTo, alone, standing_at_top, standing_in, standing_of, inside_is, node_begins_with_line_feed, begins_at, is_plain_element, is_plain_what, is_plain_at, after_visit}
 pub use Rattle.hserialize.specs.Vocabulary.{What, children_of, tree_at, ancestors_of, is_among, mapped_attribute, mapped, what_of, escaped, gathered, gathered_failures, what_is, written_so_far, Puts, WritesText, goes_in, visits, visits_from, stands_raw, opening_of, closing_of, start_tag_text, end_tag_text, attribute_text, written, Leave, Enter, text_of, Write, takes_role, texts_in, is_nested, are_plain_attributes, is_form_element, in_region, are_region_content, content_among, is_phrasing, marked, tag_at, texts_at_top, top_content, AreEntriesNumbered, pair_of, IsLine, attribute_line, indented, printed_lines, error_line, in_order, error_lines, node_lines, tree_text}
@@ -43,7 +43,7 @@ pub use Rattle.names.specs.declared.tag.Tag.{Tag}
 pub use Rattle.std.proofs.Common.{ap, ◌∙◌, ◌≡◌, ℕ, ◌++◌, sym, List, [], refl, ◌∷◌, subst, ◌<◌, length, arith, rules, Some, cond, Option, true, drop, false, ◌+◌, Bool, None, map, eqb, ◌≤◌, option_and_then, length-append, codes, suc, zero, Ok, take, ◌-◌, Err, get_or, inl, Result, drop-cons, add-one, ◌⊎◌, inr, not, nat_eq, decimal, vec_capacity, ◌^◌, ◌≢◌, ◌*◌, unwrap_or, take-append-drop}
 pub use Rattle.std.proofs.KnownBytes.{Appends-trans, Appends-nil}
 pub use Rattle.std.proofs.Math.Seq.{drop-append_seam, take-append-add, take-append_seam}
-pub use Rattle.std.proofs.lemmas.Bool.{cond_both, eq-eqb, and_parts, not-true, or_right, false_from_ne_true, cases_lt, ne_eqb, eqb-true, le-leb}
+pub use Rattle.std.proofs.lemmas.Bool.{cond_both, eq-eqb, and_parts, not-true, or_right, false_from_ne_true, cases_lt, ne_eqb, eqb-true}
 pub use Rattle.std.proofs.lemmas.Bool.Decides.{Decides-eqb, nat_tests}
 pub use Rattle.std.proofs.lemmas.Grind.{flat_map-append}
 pub use Rattle.std.proofs.lemmas.List.{append_assoc, append-nil, take_rest, drop_all, get_or_default, drop-drop, nil_from_length, get_or_past, length-take, take_all}

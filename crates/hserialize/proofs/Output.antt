@@ -111,10 +111,6 @@ next_lines f xs i d h = ap (flat_map f) (drop-cons xs i d h ∙ (λ k. get_or xs
 pub between : (before lent text after : List ℕ) → lent ≡ text → before ++ (lent ++ (after ++ [])) ≡ before ++ text ++ after
 between before lent text after same = ap (λ t. before ++ (lent ++ t)) (append-nil after) ∙ ap (λ t. before ++ (t ++ after)) same ∙ sym (append_assoc before text after)
 
--- what was put, in other words
-pub put_same : (old new : Taken) (bytes same : List ℕ) (r : Result (Unit {0}) Refusal) → bytes ≡ same → Puts old new bytes r → Puts old new same r
-put_same old new bytes same r is put = subst (λ t. Puts old new t r) is put
-
 -- what was put for what a node is was put for the node
 pub put_for : (old new : Taken) (bytes : Option (What ℕ) → List ℕ) (r : Result (Unit {0}) Refusal) (at n : NodeView) (o : Option (What ℕ)) → at ≡ n → Some (what_is at) ≡ o → Puts old new (bytes (Some (what_is n))) r
     → Puts old new (bytes o) r

@@ -1,13 +1,6 @@
 -- Names and attributes that are plain.
-use Rattle.hserialize.proofs.Names.{◌≡◌, ℕ, ◌<◌, Bool, true, false, not, List, [], ◌∷◌, length, drop, map, refl, sym, ◌∙◌, ap, and_parts, Decides-eqb, ◌&&◌, ◌||◌, nat_eq, suc, Texts, AreNames, text_of, names_differ, are_plain_attributes, ◌-◌, ◌≤◌, inl, inr, get_or, take, arith, cases_lt, take_all, get_or_past, bytes_eq-Decides, bytes_eq, list_all, list_any, is_ascii_lowercase, different, are_clean, has_no_null_or_return, names_end, Attribute, mapped_attribute, is_plain_name_byte, is_plain_name, has_plain_name, ArePlainTo}
+use Rattle.hserialize.proofs.Names.{◌≡◌, ℕ, ◌<◌, Bool, true, false, not, List, [], ◌∷◌, length, map, refl, sym, ◌∙◌, ap, and_parts, Decides-eqb, ◌&&◌, ◌||◌, nat_eq, suc, Texts, AreNames, text_of, names_differ, are_plain_attributes, ◌≤◌, inl, inr, arith, cases_lt, get_or_past, bytes_eq-Decides, bytes_eq, list_all, list_any, different, are_clean, has_no_null_or_return, names_end, Attribute, mapped_attribute, is_plain_name, has_plain_name, ArePlainTo}
 use Rattle.std.proofs.Math.Nat.{le-max_left, le-max_right}
-
--- a name whose first byte is a lower letter
-pub lower_first : (name bytes : List ℕ) (all : Bool) → bytes ≡ name → 1 ≤ length bytes → true ≡ is_ascii_lowercase (get_or bytes 0 0) → all ≡ list_all is_plain_name_byte (take (length bytes - 1) (drop 1 bytes)) → all ≡ is_plain_name name
-lower_first [] bytes all same some lower is = absurd (let none : length bytes ≡ 0 = ap length same in omega (arith, some, none))
-lower_first (b ∷ name) bytes all same some lower is =
-    let low : true ≡ is_ascii_lowercase b = lower ∙ ap (λ t. is_ascii_lowercase (get_or t 0 0)) same in
-    is ∙ ap (λ t. list_all is_plain_name_byte (take (length t - 1) (drop 1 t))) same ∙ ap (list_all is_plain_name_byte) (take_all (length (b ∷ name) - 1) name (omega arith)) ∙ ap (λ u. u && list_all is_plain_name_byte name) low
 
 -- names of a table are compared by their numbers
 same-name : (names : Texts) (i j : ℕ) → AreNames names → i < length names → j < length names → bytes_eq (text_of names i) (text_of names j) ≡ nat_eq j i

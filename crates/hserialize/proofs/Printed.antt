@@ -1,22 +1,7 @@
 -- What a walk prints.
-use Rattle.hserialize.proofs.Names.{◌≡◌, ℕ, suc, ◌+◌, ◌-◌, ◌<◌, ◌≤◌, List, [], ◌∷◌, ◌++◌, length, refl, sym, ◌∙◌, ap, subst, arith, append_assoc, text_of, zero, ◌^◌, append-nil, Texts, Forest, none, tree, children_of, mapped, mapped_what, node_lines, tree_lines, tree_text, Taken, AddsBytes, Fails, cond_both, AreCounted, one_less, depth_after, IsOpenVisit, printed_lines, visit_lines, goes_in, visits, Reach, Whole, Visit, Enter, Leave, Refusal}
-use Rattle.hserialize.proofs.Output.{HasLeft, none_put, part_put, part_failed, all_put}
+use Rattle.hserialize.proofs.Names.{◌≡◌, ℕ, suc, ◌+◌, ◌<◌, ◌≤◌, List, [], ◌∷◌, ◌++◌, length, refl, sym, ◌∙◌, ap, subst, arith, append_assoc, text_of, zero, ◌^◌, append-nil, Texts, Forest, none, tree, children_of, mapped, mapped_what, node_lines, tree_lines, tree_text, Taken, AddsBytes, Fails, AreCounted, depth_after, printed_lines, visit_lines, visits, Whole, Visit, Enter, Leave, Refusal}
+use Rattle.hserialize.proofs.Output.{HasLeft, none_put, part_put, part_failed}
 use Rattle.hserialize.proofs.Seen.{Seen, seen}
-
--- only what is open is left, all along
-abbrev Balanced : ℕ → List Visit → Type 0
-Balanced depth [] = Unit {0}
-Balanced depth (v ∷ vs) = IsOpenVisit depth v × Balanced (depth_after v depth) vs
-
-balanced : (reach : Reach) (f : Forest ℕ) (depth : ℕ) (more : List Visit) → Balanced depth more → Balanced depth (visits reach f ++ more)
-balanced reach none depth more h = h
-balanced reach (tree b w kids rest) depth more h =
-    let after : Balanced (suc depth) (Leave b ∷ (visits reach rest ++ more)) = (omega arith, balanced reach rest depth more h) in (
-      tt,
-      cond_both (goes_in reach w) (visits reach kids) [] (λ l. Balanced (suc depth) ((l ++ Leave b ∷ visits reach rest) ++ more))
-          (λ _. subst (Balanced (suc depth)) (sym (append_assoc (visits reach kids) (Leave b ∷ visits reach rest) more)) (balanced reach kids (suc depth) (Leave b ∷ (visits reach rest ++ more)) after))
-          (λ _. after),
-    )
 
 module _ (texts : ℕ → List ℕ) (f : Forest ℕ) where
   -- what visits print
@@ -37,10 +22,6 @@ module _ (texts : ℕ → List ℕ) (f : Forest ℕ) where
       inside : List ℕ
       inside = tree_lines (suc depth) (mapped texts kids)
 
-pub one_less_is : (depth : ℕ) → depth - 1 ≡ one_less depth
-one_less_is zero = refl
-one_less_is (suc depth) = omega arith
-
 deepens : (v : Visit) (depth : ℕ) → depth_after v depth ≤ depth + 1
 deepens (Enter n) depth = omega arith
 deepens (Leave n) zero = omega arith
@@ -49,14 +30,12 @@ deepens (Leave n) (suc depth) = omega arith
 -- The visits that are left print the rest of the text.
 pub record IsPutting (names : Texts) (f : Forest ℕ) (root depth : ℕ) (old now : Taken) (left : List Visit) : Type 0 where
   pub few : depth + length left < 2 ^ 33
-  pub balanced : Balanced depth left
   pub printing : HasLeft old now (tree_text (mapped (text_of names) (children_of root f))) (visits_lines (text_of names) f depth left)
 
 pub begun_putting : (names : Texts) (made : ℕ) (f : Forest ℕ) (root : ℕ) (old : Taken) (left items : List Visit) → AreCounted made f → root < made → left ≡ items
     → items ≡ visits Whole (children_of root f) → length items < 2 ^ 33 → IsPutting names f root 0 old old left
 begun_putting names made f root old left items counted h same visited few = record {
   few = let long : length left ≡ length items = ap length same in omega (arith, few, long);
-  balanced = subst (Balanced 0) all (balanced Whole (children_of root f) 0 [] tt);
   printing = subst (HasLeft old old text) (sym (append-nil text) ∙ sym (prints (text_of names) f made root root (children_of root f) (seen made f counted root h) 0 []) ∙ ap (visits_lines (text_of names) f 0) all) (none_put old text);
 }
   where
@@ -71,14 +50,9 @@ module _ (names : Texts) (f : Forest ℕ) (root depth : ℕ) (old now : Taken) (
   pub put_more : (depth' : ℕ) (new : Taken) → depth' ≡ depth_after v depth → AddsBytes now new (visit_lines (text_of names) f depth v) → IsPutting names f root depth' old new left
   put_more depth' new e h = record {
     few = let long = subst (λ l. depth + length l < 2 ^ 33) is s.few in let deep = deepens v depth in omega (arith, long, e, deep);
-    balanced = subst (λ k. Balanced k left) (sym e) (subst (Balanced depth) is s.balanced).1;
     printing = part_put old now new _ _ _ _ s.printing (ap (visits_lines (text_of names) f depth) is ∙ ap (λ k. visit_lines (text_of names) f depth v ++ visits_lines (text_of names) f k left) (sym e)) h;
   }
 
   -- one that failed
   pub put_failed : (new : Taken) {e : Refusal} → Fails e now new (visit_lines (text_of names) f depth v) → Fails e old new (tree_text (mapped (text_of names) (children_of root f)))
   put_failed new h = part_failed old now new _ _ _ (visits_lines (text_of names) f (depth_after v depth) left) s.printing (ap (visits_lines (text_of names) f depth) is) h
-
--- the end
-pub all_printed : (names : Texts) (f : Forest ℕ) (root depth : ℕ) (old now : Taken) (left : List Visit) → left ≡ [] → IsPutting names f root depth old now left → AddsBytes old now (tree_text (mapped (text_of names) (children_of root f)))
-all_printed names f root depth old now left is s = all_put old now _ _ s.printing (ap (visits_lines (text_of names) f depth) is)

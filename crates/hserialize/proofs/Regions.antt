@@ -1,5 +1,5 @@
 -- A list is content of what it is in exactly if each of its regions is, and no form is in a form.
-use Rattle.hserialize.proofs.Names.{◌≡◌, ℕ, ◌<◌, Bool, true, false, not, cond, List, Some, None, refl, sym, ◌∙◌, and_parts, ap, arith, option_and_then, ◌&&◌, ◌||◌, Option, Texts, AreNames, text_of, tag_of, tag_named, Tag, AreCounted, What, element, Forest, none, tree, children_of, mapped, mapped_what, name_in, row, takes_role, Inside, are_plain_attributes, in_context_of, inside_node, is_form_element, is_nested, is_plain_node, inserts_marker, are_region_content, begins_region, in_region, without_form, is_phrasing, tag_at, tag_or_other, texts_at_top, top_content, visits, Content, Visit, option_map, are_content, are_content_if, begins_with_line_feed, drops_line_feed, is_plain, form_after, have_plain_regions, makes_form, Whole}
+use Rattle.hserialize.proofs.Names.{◌≡◌, ℕ, ◌<◌, Bool, true, false, not, cond, List, Some, None, refl, sym, ◌∙◌, and_parts, ap, arith, option_and_then, ◌&&◌, ◌||◌, Option, Texts, AreNames, text_of, tag_of, tag_named, Tag, AreCounted, What, element, Forest, none, tree, children_of, mapped, mapped_what, name_in, row, takes_role, Inside, are_plain_attributes, in_context_of, inside_node, is_form_element, is_nested, is_plain_node, inserts_marker, are_region_content, begins_region, in_region, without_form, tag_at, tag_or_other, texts_at_top, top_content, visits, Content, Visit, option_map, are_content, are_content_if, begins_with_line_feed, drops_line_feed, is_plain, form_after, have_plain_regions, makes_form, Whole}
 use Rattle.hserialize.proofs.KnownNames.{tags-agree}
 use Rattle.hserialize.proofs.Runs.{walked}
 use Rattle.hserialize.proofs.Seen.{Seen, seen}
@@ -149,18 +149,6 @@ top_is : (c : Content) (form : Bool) → in_context_of c form ≡ option_map (λ
 top_is content.Flow form = refl
 top_is _ form = refl
 
--- no list at the top is of phrasing elements alone
-abbrev is_other : Option Content → Bool
-is_other None = false
-is_other (Some c) = is_phrasing c
-
-pub top_other : (c top : Content) → Some top ≡ top_content c → is_phrasing top ≡ false
-top_other c top h = ap is_other h ∙ go c
-  where
-    go : (c : Content) → is_other (top_content c) ≡ false
-    go content.Flow = refl
-    go _ = refl
-
 -- a list is plain if its top region is content, and so are the others, and no form is in a form
 pub plain_is : (context : List ℕ) (t : Tag) (top : Content) (f : Forest (List ℕ)) → t ≡ tag_named context → Some top ≡ top_content (row t).1
     → (are_region_content (in_region top) f && have_plain_regions (is_form_element t) f) ≡ is_plain context f
@@ -182,12 +170,6 @@ begun names made f root top context t in_form left items table counted h named t
     ∙ ap (λ u. u && have_plain_regions (is_form_element t) g) region ∙ plain_is context t top g named topmost in
     finds-all (form_after (text_of names) f) Whole (children_of root f) _ in_form left items same visited
     (finds (text_of names) (tags-agree names table) f made root root (children_of root f) (seen made f counted root h) in_form ∙ ap (λ u. cond u (Some in_form) None) all)
-
--- no list is plain where none is at the top
-pub none_plain : (context : List ℕ) (t : Tag) (f : Forest (List ℕ)) → t ≡ tag_named context → top_content (row t).1 ≡ None → false ≡ is_plain context f
-none_plain context t f named missing =
-    ap (λ o. are_content_if (option_map (λ own. record { content = own; texts = texts_at_top own; in_a = false; in_button = false; in_form = is_form_element t }) o) f) (sym missing)
-    ∙ ap (λ o. are_content_if o f) (sym (top_is (row t).1 (is_form_element t)) ∙ ap (λ u. in_context_of (row u).1 (is_form_element u)) named)
 
 -- a top region that is not content
 pub not_plain : (context : List ℕ) (t : Tag) (top : Content) (f : Forest (List ℕ)) → t ≡ tag_named context → Some top ≡ top_content (row t).1

@@ -1,6 +1,6 @@
 -- A list is in order in one way, where what ties is one element: that of inserting each element in turn.
-use Rattle.hserialize.proofs.Names.{◌≡◌, ℕ, ◌+◌, ◌<◌, ◌≤◌, Bool, false, cond, List, [], ◌∷◌, length, get_or, suc, refl, sym, ◌∙◌, ap, arith, nat_tests, AllByRecursion, All, IsPermutation, IsStrictWeakOrder, IsTotalOrder, cond_both, IsSortedBy, recursion_from_All, All-permutation, sum_by-IsPermutation, sorted_far}
-use Rattle.std.proofs.lemmas.List.Sorted.{IsPermutation-refl}
+use Rattle.hserialize.proofs.Names.{◌≡◌, ℕ, ◌+◌, ◌<◌, ◌≤◌, Bool, false, cond, List, [], ◌∷◌, length, get_or, zero, suc, subst, refl, sym, ◌∙◌, ap, arith, nat_tests, AllByRecursion, All, IsPermutation, IsStrictWeakOrder, IsTotalOrder, cond_both, IsSortedBy, recursion_from_All, All-permutation, sum_by-IsPermutation, sorted_far}
+use Rattle.std.proofs.lemmas.List.Sorted.{IsPermutation-refl, IsPermutation-trans, IsPermutation-insert, IsPermutation-append_right}
 use Rattle.std.proofs.lemmas.List.Sums.{sum_by-cons}
 use Rattle.std.specs.List.{sum_by}
 use Rattle.std.specs.Ordering.{is_lt, ordering_reverse}
@@ -41,14 +41,16 @@ module _ {X : Type 0} (lt : X → X → Bool) where
   Up [] = Unit {0}
   Up (x ∷ xs) = Above x xs × Up xs
 
-  put-sum : (f : X → ℕ) (a : X) (xs : List X) → sum_by f (put a xs) ≡ f a + sum_by f xs
-  put-sum f a [] = sum_by-cons f a []
-  put-sum f a (b ∷ xs) = cond_both (lt b a) (b ∷ put a xs) (a ∷ b ∷ xs) (λ l. sum_by f l ≡ f a + sum_by f (b ∷ xs))
-      (λ _. omega (arith, sum_by-cons f b (put a xs), sum_by-cons f b xs, put-sum f a xs)) (λ _. sum_by-cons f a (b ∷ xs))
+  put-permutes : (a : X) (xs : List X) → IsPermutation (a ∷ xs) (put a xs)
+  put-permutes a [] = IsPermutation-refl (a ∷ [])
+  put-permutes a (b ∷ xs) = cond_both (lt b a) (b ∷ put a xs) (a ∷ b ∷ xs) (IsPermutation (a ∷ b ∷ xs))
+      (λ _. IsPermutation-trans (a ∷ b ∷ xs) (b ∷ a ∷ xs) (b ∷ put a xs) (IsPermutation-insert (b ∷ xs) 1 a) (IsPermutation-append_right (b ∷ []) (a ∷ xs) (put a xs) (put-permutes a xs)))
+      (λ _. IsPermutation-refl (a ∷ b ∷ xs))
 
-  inserted-sum : (f : X → ℕ) (xs : List X) → sum_by f (inserted xs) ≡ sum_by f xs
-  inserted-sum f [] = refl
-  inserted-sum f (a ∷ xs) = omega (arith, put-sum f a (inserted xs), sum_by-cons f a xs, inserted-sum f xs)
+  pub inserted-permutes : (xs : List X) → IsPermutation xs (inserted xs)
+  inserted-permutes [] = IsPermutation-refl []
+  inserted-permutes (a ∷ xs) =
+      IsPermutation-trans (a ∷ xs) (a ∷ inserted xs) (put a (inserted xs)) (IsPermutation-append_right (a ∷ []) xs (inserted xs) (inserted-permutes xs)) (put-permutes a (inserted xs))
 
   -- how many of a list are less than this one
   abbrev count : X → X → ℕ
@@ -77,6 +79,17 @@ module _ {X : Type 0} (lt : X → X → Bool) where
     inserted-up [] = tt
     inserted-up (a ∷ xs) = put-up a (inserted xs) (inserted-up xs)
 
+    rises : (xs : List X) → Up xs → (k : ℕ) (d : X) → suc k < length xs → lt (get_or xs (suc k) d) (get_or xs k d) ≡ false
+    rises [] h k d within = absurd (omega (arith, within))
+    rises (x ∷ []) h k d within = absurd (omega (arith, within))
+    rises (x ∷ y ∷ ys) h zero d within = h.0.0
+    rises (x ∷ y ∷ ys) h (suc k) d within = rises (y ∷ ys) h.1 k d (omega (arith, within))
+
+    pub inserted-sorted : (xs : List X) → IsSortedBy lt (inserted xs)
+    inserted-sorted xs = λ k d low within.
+        let next : suc k ≡ k + 1 = omega arith in
+        subst (λ (n : ℕ). lt (get_or (inserted xs) n d) (get_or (inserted xs) k d) ≡ false) next (rises (inserted xs) (inserted-up xs) k d (omega (arith, within)))
+
     up_of : (xs : List X) → ((i j : ℕ) (d : X) → i ≤ j → j < length xs → lt (get_or xs j d) (get_or xs i d) ≡ false) → Up xs
     up_of [] h = tt
     up_of (x ∷ xs) h = (recursion_from_All _ _ (λ k d p. h 0 (suc k) d (omega arith) (omega arith)), up_of xs (λ i j d p q. h (suc i) (suc j) d (omega arith) (omega arith)))
@@ -96,7 +109,7 @@ module _ {X : Type 0} (lt : X → X → Bool) where
       pub sorted-is : (xs ys : List X) → IsPermutation xs ys → IsSortedBy lt ys → All P xs → ys ≡ inserted xs
       sorted-is xs ys moved up all =
           once ys (inserted xs) (up_of ys (sorted_far lt o ys up)) (inserted-up xs) (recursion_from_All P ys (All-permutation P xs ys moved all)) (inserted_all P xs (recursion_from_All P xs all))
-          (λ f. sum_by-IsPermutation f xs ys moved ∙ sym (inserted-sum f xs))
+          (λ f. sum_by-IsPermutation f xs ys moved ∙ sym (sum_by-IsPermutation f xs (inserted xs) (inserted-permutes xs)))
 
       pub sorted-once : (xs ys : List X) → IsPermutation xs ys → IsSortedBy lt xs → IsSortedBy lt ys → All P xs → xs ≡ ys
       sorted-once xs ys moved up up' all = sorted-is xs xs (IsPermutation-refl xs) up all ∙ sym (sorted-is xs ys moved up' all)

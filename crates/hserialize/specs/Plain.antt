@@ -52,7 +52,8 @@ is_plain_name (b ∷ bs) = is_ascii_lowercase b && list_all is_plain_name_byte b
 -- attributes with such names, no two of which are the same
 abbrev pub are_plain_attributes : List (Attribute (List ℕ)) → Bool
 are_plain_attributes [] = true
-are_plain_attributes (a ∷ others) = is_plain_name a.0 && has_no_null_or_return a.1 && not (list_any (λ b. bytes_eq a.0 b.0) others) && are_plain_attributes others
+are_plain_attributes (a ∷ others) =
+    is_plain_name a.0 && has_no_null_or_return a.1 && not (list_any (λ b. bytes_eq a.0 b.0) others) && are_plain_attributes others
 
 -- LISTS OF TREES
 

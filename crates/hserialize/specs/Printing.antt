@@ -1,5 +1,5 @@
 -- What a visit of a walk prints, and the depth after it.
-use Rattle.std.specs.Prelude.{ℕ, zero, suc, ◌<◌, List, [], length, Option, Some, None}
+use Rattle.std.specs.Prelude.{ℕ, zero, suc, List, [], length, Option, Some, None}
 use Rattle.hnodes.specs.Forest.{What, element, Forest}
 use Rattle.hnodes.specs.Mapped.{mapped_what}
 use Rattle.hnodes.specs.Spots.{what_of}
@@ -14,11 +14,6 @@ one_less (suc depth) = depth
 abbrev pub depth_after : Visit → ℕ → ℕ
 depth_after (Enter n) depth = suc depth
 depth_after (Leave n) depth = one_less depth
-
--- only what is open is left
-abbrev pub IsOpenVisit : ℕ → Visit → Type 0
-IsOpenVisit depth (Enter n) = Unit {0}
-IsOpenVisit depth (Leave n) = 0 < depth
 
 -- how many attributes a node has
 abbrev pub attribute_count : Option (What ℕ) → ℕ

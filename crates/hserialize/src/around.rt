@@ -17,7 +17,6 @@ pub(crate) struct Around {
 }
 
 impl Around {
-    /// Nothing is around it.
     pub(crate) const ALONE: Around = Around {
         in_a: false,
         in_button: false,
@@ -26,24 +25,16 @@ impl Around {
 
     /// The same once an element of this name is entered, or left. An a, a button or an element of phrasing content is in none of
     /// its kind unless a marker is between, so leaving it undoes entering it.
-    pub(crate) fn marked(self, tag: Tag, inside: bool) -> Around
+    pub(crate) fn marked(mut self, tag: Tag, inside: bool) -> Around
         ensures { result ≡ marked tag inside self }
     {
         match tag {
-            Tag::A => Around {
-                in_a: inside,
-                ..self
-            },
-            Tag::Button => Around {
-                in_button: inside,
-                ..self
-            },
-            _ if matches!(row(tag).1, Content::Phrasing) => Around {
-                in_phrasing: inside,
-                ..self
-            },
-            _ => self,
+            Tag::A => self.in_a = inside,
+            Tag::Button => self.in_button = inside,
+            _ if matches!(row(tag).1, Content::Phrasing) => self.in_phrasing = inside,
+            _ => {}
         }
+        self
     }
 }
 

@@ -3,6 +3,8 @@
 ghost use Rattle.std.specs.Prelude.{◌≡◌};
 ghost use Rattle.hserialize.specs.Vocabulary.{takes_role, texts_in, takes_comments, top_content};
 
+use self::Content::*;
+
 /// What an element is among its siblings.
 #[derive(Clone, Copy)]
 pub enum Role {
@@ -68,49 +70,37 @@ pub enum Texts {
 }
 
 impl Content {
-    /// Whether elements of this role are in this content.
     pub(crate) fn takes_role(self, role: Role) -> bool
         ensures { result ≡ takes_role self role }
     {
         match self {
-            Content::Flow => matches!(role, Role::Phrasing | Role::Flow),
-            Content::Phrasing => matches!(role, Role::Phrasing),
-            Content::ListItems => matches!(role, Role::ListItem),
-            Content::Definitions => matches!(role, Role::Definition),
-            Content::TableParts => matches!(role, Role::TablePart),
-            Content::Columns => matches!(role, Role::Column),
-            Content::TableRows => matches!(role, Role::TableRow),
-            Content::Cells => matches!(role, Role::Cell),
+            Flow => matches!(role, Role::Phrasing | Role::Flow),
+            Phrasing => matches!(role, Role::Phrasing),
+            ListItems => matches!(role, Role::ListItem),
+            Definitions => matches!(role, Role::Definition),
+            TableParts => matches!(role, Role::TablePart),
+            Columns => matches!(role, Role::Column),
+            TableRows => matches!(role, Role::TableRow),
+            Cells => matches!(role, Role::Cell),
             _ => false,
         }
     }
 
-    /// Whether comments are in this content.
     pub(crate) fn takes_comments(self) -> bool
         ensures { result ≡ takes_comments self }
     {
-        !matches!(
-            self,
-            Content::Text | Content::RawText | Content::ScriptText | Content::Empty
-        )
+        !matches!(self, Text | RawText | ScriptText | Empty)
     }
 
-    /// Which texts are in this content.
     pub(crate) fn texts(self) -> Texts
         ensures { result ≡ texts_in self }
     {
         match self {
-            Content::Flow
-            | Content::Phrasing
-            | Content::ListItems
-            | Content::Definitions
-            | Content::Text => Texts::Any,
-            Content::TableParts | Content::Columns | Content::TableRows | Content::Cells => {
-                Texts::WhiteSpace
-            }
-            Content::RawText => Texts::Raw,
-            Content::ScriptText => Texts::Script,
-            Content::Around | Content::Empty => Texts::None,
+            Flow | Phrasing | ListItems | Definitions | Text => Texts::Any,
+            TableParts | Columns | TableRows | Cells => Texts::WhiteSpace,
+            RawText => Texts::Raw,
+            ScriptText => Texts::Script,
+            Around | Empty => Texts::None,
         }
     }
 
@@ -119,14 +109,10 @@ impl Content {
         ensures { result ≡ top_content self }
     {
         match self {
-            Content::Flow
-            | Content::Phrasing
-            | Content::Around
-            | Content::ListItems
-            | Content::Definitions => Some(Content::Flow),
-            Content::TableParts | Content::TableRows | Content::Cells => Some(self),
-            Content::Text | Content::RawText | Content::ScriptText => Some(Content::Text),
-            Content::Columns | Content::Empty => None,
+            Flow | Phrasing | Around | ListItems | Definitions => Some(Flow),
+            TableParts | TableRows | Cells => Some(self),
+            Text | RawText | ScriptText => Some(Text),
+            Columns | Empty => None,
         }
     }
 }

@@ -42,7 +42,6 @@ impl ErrorLine {
         }
     }
 
-    /// Makes it the line of this kind.
     #[inline(always)]
     fn turn_to(&mut self, code: ErrorCode)
         requires { IsLine self.old }
@@ -53,20 +52,16 @@ impl ErrorLine {
             *self = ErrorLine::of(code);
         }
     }
-}
 
-/// Writes the line of an error, by way of the line that is kept.
-#[inline(always)]
-pub(crate) fn put_error<W: Target>(
-    out: &mut Writer<'_, W>,
-    line: &mut ErrorLine,
-    error: &ParseError,
-) -> Answer
-    requires { IsLine line.old }
-    ensures text { PutsTo W.written W.failed out.old out.new (error_line error.now) result }
-    ensures line { IsLine line.new }
-{
-    line.turn_to(error.code);
-    let start = write_digits(error.at, &mut line.bytes, DIGITS);
-    put(out, &line.bytes[start..line.end])
+    /// Writes the line of an error.
+    #[inline(always)]
+    pub(crate) fn put<W: Target>(&mut self, out: &mut Writer<W>, error: &ParseError) -> Answer
+        requires { IsLine self.old }
+        ensures text { PutsTo W.written W.failed out.old out.new (error_line error.now) result }
+        ensures line { IsLine self.new }
+    {
+        self.turn_to(error.code);
+        let start = write_digits(error.at, &mut self.bytes, DIGITS);
+        put(out, &self.bytes[start..self.end])
+    }
 }

@@ -25,7 +25,7 @@ fn reference(ch: char, escaping: Escaping, setting: Setting) -> Option<&'static 
 
 /// Writes a text: escaping a string (`#escapingString`).
 pub(crate) fn put_escaped<W: Target>(
-    out: &mut Writer<'_, W>,
+    out: &mut Writer<W>,
     source: &str,
     escaping: Escaping,
     setting: Setting,

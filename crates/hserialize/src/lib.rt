@@ -28,6 +28,7 @@ pub use lines::{error_lines, print_errors, print_tree, tree_text};
 pub use node_view::NodeView;
 pub use plain::is_plain;
 pub use plain_document::is_plain_document;
+pub use plain_names::is_plain_name;
 pub use serializer::{
     serialize, serialize_in, serialize_in_to_vec, serialize_outer, serialize_outer_to_vec,
     serialize_to_vec,

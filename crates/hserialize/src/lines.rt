@@ -4,7 +4,7 @@ ghost use Rattle.std.specs.Prelude.{◌≡◌, ◌++◌, ◌<◌, ◌≤◌, ◌
 ghost use Rattle.std.specs.String.{string_bytes};
 ghost use Rattle.hserialize.specs.Vocabulary.{text_of, children_of, what_of, mapped, pair_of, indented, attribute_line, identifiers, error_lines, tree_text, HoldsBytes, IsFlushed, PutsTo, WritesText, attribute_count, printed_lines, is_empty_text};
 
-use crate::error_line::{ErrorLine, put_error};
+use crate::error_line::ErrorLine;
 use crate::sorted::{NamedAttr, in_order};
 use crate::writer::{Answer, ROOM, Writer, put, put_parts};
 use crate::{Gathered, NodeView, Reach, Target, TreeWalk, Visit};
@@ -12,8 +12,7 @@ use hnodes::{DocumentType, NodeId, Tree};
 use names::{Names, ParseError, Refusal};
 use std::alloc::Global;
 
-/// Writes a line of these parts.
-fn put_line<W: Target>(out: &mut Writer<'_, W>, depth: usize, parts: &[&[u8]]) -> Answer
+fn put_line<W: Target>(out: &mut Writer<W>, depth: usize, parts: &[&[u8]]) -> Answer
     ensures { PutsTo W.written W.failed out.old out.new (indented depth (flat_map (λ p. p.now) parts.now)) result }
 {
     put(out, b"| ")?;
@@ -24,12 +23,7 @@ fn put_line<W: Target>(out: &mut Writer<'_, W>, depth: usize, parts: &[&[u8]]) -
     put(out, b"\n")
 }
 
-/// Writes the lines of attributes.
-fn put_attributes<W: Target>(
-    out: &mut Writer<'_, W>,
-    depth: usize,
-    entries: &[NamedAttr<'_>],
-) -> Answer
+fn put_attributes<W: Target>(out: &mut Writer<W>, depth: usize, entries: &[NamedAttr]) -> Answer
     ensures { PutsTo W.written W.failed out.old out.new (flat_map (attribute_line depth) (map pair_of entries.now)) result }
 {
     for entry in entries {
@@ -46,8 +40,7 @@ fn has_none(public_id: &str, system_id: &str) -> bool
     public_id.is_empty() && system_id.is_empty()
 }
 
-/// Writes the line of a doctype.
-fn put_doctype<W: Target>(out: &mut Writer<'_, W>, depth: usize, texts: &DocumentType) -> Answer
+fn put_doctype<W: Target>(out: &mut Writer<W>, depth: usize, texts: &DocumentType) -> Answer
     ensures { PutsTo W.written W.failed out.old out.new (indented depth (codes "<!DOCTYPE " ++ string_bytes texts.now.name
         ++ identifiers (string_bytes texts.now.public_id) (string_bytes texts.now.system_id) ++ codes ">")) result }
 {
@@ -63,9 +56,8 @@ fn put_doctype<W: Target>(out: &mut Writer<'_, W>, depth: usize, texts: &Documen
     )
 }
 
-/// Writes the lines of a node.
 fn put_node<'a, W: Target>(
-    out: &mut Writer<'_, W>,
+    out: &mut Writer<W>,
     entries: &mut Vec<NamedAttr<'a>>,
     tree: &'a Tree,
     names: &'a Names,
@@ -91,7 +83,6 @@ fn put_node<'a, W: Target>(
     }
 }
 
-/// The most attributes that a node has.
 fn most_attributes(tree: &Tree) -> usize
     ensures { (n : ℕ) → n < tree.now.made → attribute_count (what_of n tree.now.trees) ≤ result }
 {
@@ -108,7 +99,7 @@ fn most_attributes(tree: &Tree) -> usize
 
 /// Writes the nodes inside a node. Nothing is handed on.
 fn put_nodes<'a, W: Target>(
-    out: &mut Writer<'_, W>,
+    out: &mut Writer<W>,
     entries: &mut Vec<NamedAttr<'a>>,
     tree: &'a Tree,
     names: &'a Names,
@@ -125,7 +116,7 @@ fn put_nodes<'a, W: Target>(
                 put_node(out, entries, tree, names, depth, node)?;
                 depth += 1;
             }
-            Visit::Leave(_) => depth -= 1,
+            Visit::Leave(_) => depth = depth.saturating_sub(1),
         }
     }
     Ok(())
@@ -169,7 +160,7 @@ pub fn tree_text(
 }
 
 /// Writes the lines of errors. Nothing is handed on.
-fn put_errors<W: Target>(out: &mut Writer<'_, W>, errors: &[ParseError]) -> Answer
+fn put_errors<W: Target>(out: &mut Writer<W>, errors: &[ParseError]) -> Answer
     ensures { PutsTo W.written W.failed out.old out.new (error_lines errors.now) result }
 {
     let Some(first) = errors.first() else {
@@ -177,7 +168,7 @@ fn put_errors<W: Target>(out: &mut Writer<'_, W>, errors: &[ParseError]) -> Answ
     };
     let mut line = ErrorLine::of(first.code);
     for error in errors {
-        put_error(out, &mut line, error)?;
+        line.put(out, error)?;
     }
     Ok(())
 }

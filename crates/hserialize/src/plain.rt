@@ -1,15 +1,15 @@
 //! Whether a list of trees is plain.
 
-ghost use Rattle.std.specs.Prelude.{◌≡◌, ◌<◌, IfSome, Some, false, map};
-ghost use Rattle.hserialize.specs.Vocabulary.{text_of, children_of, mapped, mapped_attribute, attributes_of, parent_of, are_plain_attributes, is_form_element, is_plain, drops_line_feed, are_region_content, form_after, in_region, tag_at, standing_of, inside_is, is_phrasing, is_text_at, begins_at, is_plain_at, visited_node};
+ghost use Rattle.std.specs.Prelude.{◌≡◌, ◌<◌, IfSome, false};
+ghost use Rattle.hserialize.specs.Vocabulary.{text_of, children_of, mapped, parent_of, is_form_element, is_plain, drops_line_feed, are_region_content, form_after, in_region, tag_at, standing_of, inside_is, is_phrasing, is_text_at, begins_at, is_plain_at, visited_node};
 
 use crate::around::{Around, Standing};
 use crate::content::Content;
 use crate::content_rows::row;
 use crate::plain_names::PlainNames;
-use crate::plain_texts::{begins_with, is_plain_comment, is_plain_text};
+use crate::plain_texts::{is_plain_comment, is_plain_text};
 use crate::{NodeView, Reach, TreeWalk, Visit, inserts_marker};
-use hnodes::{Attrs, NodeId, NodeKind, Tree};
+use hnodes::{NodeId, NodeKind, Tree};
 use names::{Names, Tag};
 
 /// The known name of an element; `Tag::Other` for another node.
@@ -17,10 +17,7 @@ fn tag_at(tree: &Tree, node: NodeId) -> Tag
     requires { node < tree.now.made }
     ensures { result ≡ tag_at node tree.now.trees }
 {
-    match tree.name(node) {
-        Some(name) => name.tag(),
-        None => Tag::Other,
-    }
+    tree.name(node).map_or(Tag::Other, |name| name.tag())
 }
 
 /// Where a node is, inside a root whose children are this content.
@@ -34,29 +31,21 @@ fn standing_of(tree: &Tree, root: NodeId, top: Content, around: Around, node: No
     }
 }
 
-/// Whether there is a node, and it is a text.
 pub(crate) fn is_text(tree: &Tree, node: Option<NodeId>) -> bool
     requires { IfSome node (λ n. n < tree.now.made) }
     ensures { result ≡ is_text_at node tree.now.trees }
 {
-    match node {
-        Some(node) => matches!(tree.kind(node), NodeKind::Text),
-        None => false,
-    }
+    node.is_some_and(|node| matches!(tree.kind(node), NodeKind::Text))
 }
 
-/// Whether there is a node, and it is a text that begins with LF.
 fn begins_with_line_feed(tree: &Tree, node: Option<NodeId>) -> bool
     requires { IfSome node (λ n. n < tree.now.made) }
     ensures { result ≡ begins_at node tree.now.trees }
 {
-    let Some(node) = node else {
-        return false;
-    };
-    match NodeView::of(tree, node) {
-        NodeView::Text(text) => begins_with(text, "\n"),
+    node.is_some_and(|node| match NodeView::of(tree, node) {
+        NodeView::Text(text) => text.as_bytes().starts_with(b"\n"),
         _ => false,
-    }
+    })
 }
 
 /// Whether LF right after the start tag is dropped (HTML Standard, `#parsing-main-inbody`).
@@ -64,27 +53,6 @@ fn drops_line_feed(tag: Tag) -> bool
     ensures { result ≡ drops_line_feed tag }
 {
     matches!(tag, Tag::Pre | Tag::Listing | Tag::Textarea)
-}
-
-/// Whether the attributes of an element are plain.
-pub(crate) fn are_plain_attributes(
-    tree: &Tree,
-    names: &PlainNames,
-    node: NodeId,
-    attrs: Attrs,
-) -> bool
-    requires made { node < tree.now.made }
-    requires own { attributes_of node tree.now.trees ≡ Some attrs }
-    ensures { result ≡ are_plain_attributes (map (mapped_attribute (text_of names.now.table.now)) attrs.entry) }
-{
-    prove!(names.table.are_names());
-    if attrs.len() == 0 {
-        return true;
-    }
-    if !names.are_plain(tree.attr_names_end(node), attrs) {
-        return false;
-    }
-    tree.attrs_clean(node) && tree.attrs_differ(node)
 }
 
 /// Whether a node is plain by itself, before its siblings.
@@ -97,7 +65,7 @@ fn is_plain_node(tree: &Tree, names: &PlainNames, standing: Standing, node: Node
             let tag = name.tag();
             standing.content.takes_role(row(tag).0)
                 && !standing.is_nested(tag)
-                && are_plain_attributes(tree, names, node, attrs)
+                && names.are_plain_attributes(tree, node, attrs)
                 && !(drops_line_feed(tag) && begins_with_line_feed(tree, tree.first_child(node)))
         }
         NodeView::Text(text) => {
@@ -110,6 +78,7 @@ fn is_plain_node(tree: &Tree, names: &PlainNames, standing: Standing, node: Node
 
 /// Whether what is in a node is content of it, wherever forms are, down to the elements that insert a marker: what is in
 /// those is a region by itself.
+#[tactic(auto, using(crate::proofs::Walks::goes_on, crate::proofs::Walks::fails, crate::proofs::Walks::found))]
 fn is_plain_region(tree: &Tree, names: &PlainNames, root: NodeId, top: Content) -> bool
     requires made { root < tree.now.made }
     requires not_phrasing { is_phrasing top ≡ false }
@@ -132,7 +101,6 @@ fn is_plain_region(tree: &Tree, names: &PlainNames, root: NodeId, top: Content) 
     true
 }
 
-/// Whether an element of this name is a form.
 fn is_form_element(tag: Tag) -> bool
     ensures { result ≡ is_form_element tag }
 {
@@ -160,7 +128,7 @@ fn form_after(tree: &Tree, names: &PlainNames, in_form: bool, visit: Visit) -> O
     }
 }
 
-/// Whether the children of a node are a plain list in an element of this name.
+#[tactic(auto, using(crate::proofs::Walks::goes_on, crate::proofs::Walks::fails, crate::proofs::Walks::found))]
 pub(crate) fn is_plain_list(tree: &Tree, names: &PlainNames, root: NodeId, context: &str) -> bool
     requires { root < tree.now.made }
     ensures { result ≡ is_plain context.now (mapped (text_of names.now.table.now) (children_of root tree.now.trees)) }

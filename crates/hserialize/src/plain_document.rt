@@ -6,7 +6,7 @@ ghost use Rattle.hserialize.specs.Vocabulary.{are_in_html, children_of, is_leaf_
 use crate::NodeView;
 use crate::content::Texts;
 use crate::content_rows::{is_metadata, row};
-use crate::plain::{are_plain_attributes, is_plain_list, is_text};
+use crate::plain::{is_plain_list, is_text};
 use crate::plain_names::PlainNames;
 use crate::plain_texts::{is_plain_comment, is_plain_text};
 use hnodes::{NodeId, Tree};
@@ -57,7 +57,6 @@ fn past_doctype(tree: &Tree, from: Option<NodeId>) -> Option<NodeId>
     }
 }
 
-/// Whether a node is a doctype named html without identifiers.
 fn is_plain_doctype(tree: &Tree, node: NodeId) -> bool
     requires { node < tree.now.made }
     ensures { result ≡ is_plain_doctype_at node tree.now.trees }
@@ -81,7 +80,7 @@ fn is_named(tree: &Tree, names: &PlainNames, node: NodeId, expected: &str) -> bo
 {
     match NodeView::of(tree, node) {
         NodeView::Element(name, attrs) => {
-            names.table.text(name) == expected && are_plain_attributes(tree, names, node, attrs)
+            names.table.text(name) == expected && names.are_plain_attributes(tree, node, attrs)
         }
         _ => false,
     }
@@ -92,7 +91,6 @@ fn is_last(tree: &Tree, names: &PlainNames, node: NodeId, expected: &str) -> boo
     requires { node < tree.now.made }
     ensures { IsLastAt (text_of names.now.table.now) expected.now node tree.now.trees result }
 {
-    prove!(tree.are_nodes());
     let after = past_leaves(tree, Texts::None, tree.next(node));
     after.is_none() && is_named(tree, names, node, expected)
 }
@@ -122,14 +120,13 @@ fn is_metadata_node(tree: &Tree, names: &PlainNames, node: NodeId) -> bool
         NodeView::Element(name, attrs) => {
             let tag = name.tag();
             is_metadata(tag)
-                && are_plain_attributes(tree, names, node, attrs)
+                && names.are_plain_attributes(tree, node, attrs)
                 && is_text_alone(tree, row(tag).1.texts(), tree.first_child(node))
         }
         _ => is_leaf(tree, Texts::WhiteSpace, node),
     }
 }
 
-/// Whether a node is the head of a plain document.
 fn is_head(tree: &Tree, names: &PlainNames, head: NodeId) -> bool
     requires { head < tree.now.made }
     ensures { IsHeadAt (text_of names.now.table.now) head tree.now.trees result }
@@ -147,12 +144,10 @@ fn is_head(tree: &Tree, names: &PlainNames, head: NodeId) -> bool
     true
 }
 
-/// Whether the children of a node are those of html in a plain document.
 fn is_html(tree: &Tree, names: &PlainNames, html: NodeId) -> bool
     requires { html < tree.now.made }
     ensures { result ≡ are_in_html (mapped (text_of names.now.table.now) (children_of html tree.now.trees)) }
 {
-    prove!(tree.are_nodes());
     let Some(head) = past_leaves(tree, Texts::None, tree.first_child(html)) else {
         return false;
     };
@@ -171,7 +166,6 @@ pub fn is_plain_document(tree: &Tree, names: &Names, root: NodeId) -> bool
     requires { root < tree.now.made }
     ensures { result ≡ is_plain_document (mapped (text_of names.now) (children_of root tree.now.trees)) }
 {
-    prove!(tree.are_nodes());
     let names = PlainNames::of(names);
     let first = past_leaves(tree, Texts::None, tree.first_child(root));
     let Some(html) = past_leaves(tree, Texts::None, past_doctype(tree, first)) else {

@@ -19,10 +19,7 @@ use std::alloc::Global;
 fn is_raw(tag: Tag) -> bool
     ensures { result ≡ has_no_references (raw_kind tag) }
 {
-    matches!(
-        tag.raw_kind(),
-        RawKind::Rawtext | RawKind::Script | RawKind::Plaintext
-    )
+    !matches!(tag.raw_kind(), RawKind::None | RawKind::Rcdata)
 }
 
 /// Whether the texts in a node are written as they are, by its name.
@@ -59,8 +56,7 @@ impl<'a> Listing<'a> {
         }
     }
 
-    /// Writes an attribute.
-    fn put_attribute<W: Target>(&self, out: &mut Writer<'_, W>, name: &str, value: &str) -> Answer
+    fn put_attribute<W: Target>(&self, out: &mut Writer<W>, name: &str, value: &str) -> Answer
         ensures { PutsTo W.written W.failed out.old out.new (attribute_text self.now.escaping (name.now, value.now)) result }
     {
         put_parts(out, &[b" ", name.as_bytes(), b"=\""])?;
@@ -68,13 +64,7 @@ impl<'a> Listing<'a> {
         put(out, b"\"")
     }
 
-    /// Writes a start tag.
-    fn put_start_tag<W: Target>(
-        &self,
-        out: &mut Writer<'_, W>,
-        name: NameId,
-        attrs: Attrs,
-    ) -> Answer
+    fn put_start_tag<W: Target>(&self, out: &mut Writer<W>, name: NameId, attrs: Attrs) -> Answer
         ensures { PutsTo W.written W.failed out.old out.new
             (start_tag_text self.now.escaping (text_of self.now.names.now name) (map (mapped_attribute (text_of self.now.names.now)) attrs.entry)) result }
     {
@@ -85,8 +75,7 @@ impl<'a> Listing<'a> {
         put(out, b">")
     }
 
-    /// Writes where a node begins.
-    fn put_opening<W: Target>(&self, out: &mut Writer<'_, W>, node: NodeId) -> Answer
+    fn put_opening<W: Target>(&self, out: &mut Writer<W>, node: NodeId) -> Answer
         requires { node < self.now.tree.now.made }
         ensures { PutsTo W.written W.failed out.old out.new (opening_in self.now node) result }
     {
@@ -108,8 +97,7 @@ impl<'a> Listing<'a> {
         }
     }
 
-    /// Writes where a node ends.
-    fn put_closing<W: Target>(&self, out: &mut Writer<'_, W>, node: NodeId) -> Answer
+    fn put_closing<W: Target>(&self, out: &mut Writer<W>, node: NodeId) -> Answer
         requires { node < self.now.tree.now.made }
         ensures { PutsTo W.written W.failed out.old out.new (closing_in self.now node) result }
     {
@@ -122,7 +110,7 @@ impl<'a> Listing<'a> {
     }
 
     /// Writes the list. Nothing is handed on.
-    fn put_list<W: Target>(&self, out: &mut Writer<'_, W>) -> Answer
+    fn put_list<W: Target>(&self, out: &mut Writer<W>) -> Answer
         requires { self.now.root < self.now.tree.now.made }
         ensures { PutsTo W.written W.failed out.old out.new (listed self.now) result }
     {
@@ -137,7 +125,7 @@ impl<'a> Listing<'a> {
     }
 
     /// Writes the node and what is in it, where the list is its own. Nothing is handed on.
-    fn put_outer<W: Target>(&self, out: &mut Writer<'_, W>) -> Answer
+    fn put_outer<W: Target>(&self, out: &mut Writer<W>) -> Answer
         requires made { self.now.root < self.now.tree.now.made }
         requires own { self.now.raw ≡ holds_raw (node_name self.now.root self.now.tree.now.trees) }
         ensures { PutsTo W.written W.failed out.old out.new (outer_text self.now) result }

@@ -89,7 +89,6 @@ impl<'a> Iterator for TreeWalk<'a> {
     }
 }
 
-/// The first visit inside a node.
 fn first_visit(tree: &Tree, root: NodeId) -> Option<Visit>
     requires { root < tree.now.made }
     ensures visits { (reach : Reach) → visits_from reach root result tree.now.trees ≡ visits reach (children_of root tree.now.trees) }
@@ -124,7 +123,6 @@ pub fn inserts_marker(tag: Tag) -> bool
     )
 }
 
-/// Whether a walk goes into a node.
 pub(crate) fn goes_in(tree: &Tree, reach: Reach, node: NodeId) -> bool
     requires { node < tree.now.made }
     ensures { (w : What ℕ) → what_of node tree.now.trees ≡ Some w → goes_in reach w ≡ result }

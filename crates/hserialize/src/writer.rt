@@ -28,7 +28,6 @@ impl<'t, W: Target> Writer<'t, W> {
         Writer { target, held }
     }
 
-    /// Hands over what is held.
     fn hand_over(&mut self) -> Answer
         ensures put { PutsTo W.written W.failed self.old self.new [] result }
         ensures none { OnOk result (self.new.held.now.items ≡ []) }
@@ -55,7 +54,7 @@ impl<'t, W: Target> Writer<'t, W> {
 
 /// Holds bytes that there is room for.
 #[inline]
-fn hold<W: Target>(out: &mut Writer<'_, W>, bytes: &[u8])
+fn hold<W: Target>(out: &mut Writer<W>, bytes: &[u8])
     requires { length out.old.held.now.items + length bytes.now ≤ vec_capacity out.old.held.now }
     ensures { AddsBytes (written_so_far W.written W.failed out.old) (written_so_far W.written W.failed out.new) bytes.now }
 {
@@ -66,7 +65,7 @@ fn hold<W: Target>(out: &mut Writer<'_, W>, bytes: &[u8])
 /// Writes all of the bytes, for which there is no room with those that are held.
 #[cold]
 #[inline(never)]
-fn put_past<W: Target>(out: &mut Writer<'_, W>, bytes: &[u8]) -> Answer
+fn put_past<W: Target>(out: &mut Writer<W>, bytes: &[u8]) -> Answer
     ensures { PutsTo W.written W.failed out.old out.new bytes.now result }
 {
     out.hand_over()?;
@@ -79,7 +78,7 @@ fn put_past<W: Target>(out: &mut Writer<'_, W>, bytes: &[u8]) -> Answer
 
 /// Writes all of the bytes.
 #[inline]
-pub(crate) fn put<W: Target>(out: &mut Writer<'_, W>, bytes: &[u8]) -> Answer
+pub(crate) fn put<W: Target>(out: &mut Writer<W>, bytes: &[u8]) -> Answer
     ensures { PutsTo W.written W.failed out.old out.new bytes.now result }
 {
     if bytes.len() > out.held.capacity() - out.held.len() {
@@ -89,8 +88,7 @@ pub(crate) fn put<W: Target>(out: &mut Writer<'_, W>, bytes: &[u8]) -> Answer
     Ok(())
 }
 
-/// Writes these parts, one after another.
-pub(crate) fn put_parts<W: Target>(out: &mut Writer<'_, W>, parts: &[&[u8]]) -> Answer
+pub(crate) fn put_parts<W: Target>(out: &mut Writer<W>, parts: &[&[u8]]) -> Answer
     ensures { PutsTo W.written W.failed out.old out.new (flat_map (λ p. p.now) parts.now) result }
 {
     for part in parts {
@@ -101,7 +99,7 @@ pub(crate) fn put_parts<W: Target>(out: &mut Writer<'_, W>, parts: &[&[u8]]) -> 
 
 /// Writes bytes, and then a text.
 #[inline(always)]
-pub(crate) fn put_before<W: Target>(out: &mut Writer<'_, W>, before: &[u8], text: &str) -> Answer
+pub(crate) fn put_before<W: Target>(out: &mut Writer<W>, before: &[u8], text: &str) -> Answer
     ensures { PutsTo W.written W.failed out.old out.new (before.now ++ text.now) result }
 {
     put_parts(out, &[before, text.as_bytes()])

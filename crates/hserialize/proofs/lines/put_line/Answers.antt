@@ -1,13 +1,10 @@
 use Rattle.hserialize.proofs.Names.{codes, refl}
-use Rattle.hserialize.proofs.Output.{all_parts, first_failed, last_put, none_put, part_put, part_failed, passed_on}
-use Rattle.hserialize.proofs.LineTexts.{first_level, one_level, no_level}
+use Rattle.hserialize.proofs.Output.{first_failed, last_put, part_put, part_failed, passed_on}
+use Rattle.hserialize.proofs.LineTexts.{one_level, no_level}
 use Rattle.hserialize.proofs.lines.put_line.Goals as goal
 
 pub returns-in_err-put : goal.returns-in_err-put
 returns-in_err-put g c = first_failed _ _ _ (codes "| ") _ _ c.from_residual.ensures.1 refl c.in_err-put.ensures
-
-pub loop-level-init : goal.loop-level-init
-loop-level-init g c = part_put _ _ _ _ _ (codes "| ") _ (none_put _ _) (first_level c.args.depth (all_parts c.args.parts.now)) c.in_ok-put.ensures
 
 pub returns-in_err-put-2 : goal.returns-in_err-put-2
 returns-in_err-put-2 g c =

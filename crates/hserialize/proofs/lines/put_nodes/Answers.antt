@@ -1,6 +1,6 @@
-use Rattle.hserialize.proofs.Names.{◌∙◌, ◌∷◌, ap, arith, Enter, Leave}
-use Rattle.hserialize.proofs.Output.{none_added, passed_on}
-use Rattle.hserialize.proofs.Printed.{begun_putting, put_more, put_failed, all_printed, one_less_is}
+use Rattle.hserialize.proofs.Names.{◌∙◌, ◌∷◌, ap, arith, Enter}
+use Rattle.hserialize.proofs.Output.{passed_on}
+use Rattle.hserialize.proofs.Printed.{begun_putting, put_more, put_failed}
 use Rattle.hserialize.proofs.lines.put_nodes.Goals as goal
 
 pub loop-visit-init : goal.loop-visit-init
@@ -16,16 +16,7 @@ loop-visit-preserved-in-Enter g c = record {
   room = let before = c.loop-visit.invariant.room in let after = c.in_ok-put_node-in-Enter.ensures.room in omega (arith, before, after);
 }
 
-pub loop-visit-preserved : goal.loop-visit-preserved
-loop-visit-preserved g c = record {
-  putting = put_more c.args.names.now c.args.tree.now.trees c.args.root c.loop-visit.depth _ _ (Leave c.in-Leave.field-0) c.loop-visit.visit-iterator _ (c.in-Some.ensures.steps ∙ ap (λ v. v ∷ c.next.new.self) c.in-Leave.is) c.loop-visit.invariant.putting _ _ (one_less_is c.loop-visit.depth) (none_added _);
-  room = c.loop-visit.invariant.room;
-}
-
 pub returns-in_err-put_node-in-Enter : goal.returns-in_err-put_node-in-Enter
 returns-in_err-put_node-in-Enter g c =
     passed_on _ _ _ _ c.from_residual.ensures.1
     (put_failed c.args.names.now c.args.tree.now.trees c.args.root c.loop-visit.depth _ _ (Enter c.in-Enter.node) c.loop-visit.visit-iterator _ (c.in-Some.ensures.steps ∙ ap (λ v. v ∷ c.next.new.self) c.in-Enter.is) c.loop-visit.invariant.putting _ c.in_err-put_node-in-Enter.ensures.text)
-
-pub returns : goal.returns
-returns g c = all_printed c.args.names.now c.args.tree.now.trees c.args.root c.loop-visit.depth _ _ c.loop-visit.visit-iterator c.in-None.ensures.steps.0 c.loop-visit.invariant.putting

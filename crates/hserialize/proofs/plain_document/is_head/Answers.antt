@@ -1,15 +1,8 @@
-use Rattle.hserialize.proofs.Names.{◌∙◌, ◌&&◌, ap, are_metadata, children_of, codes, is_metadata_at, list_all, mapped, next_of, sym, text_of, trees_from}
+use Rattle.hserialize.proofs.Names.{◌∙◌, ◌&&◌, ap, are_metadata, codes, is_metadata_at, list_all, mapped, next_of, sym, text_of, trees_from}
 use Rattle.hserialize.proofs.Documents.{all-metadata, element-step}
 use Rattle.hserialize.proofs.Following.{first-at}
 use Rattle.hserialize.proofs.KnownNames.{tags-agree}
 use Rattle.hserialize.proofs.plain_document.is_head.Goals as goal
-
-pub returns-then-not-is_named : goal.returns-then-not-is_named
-returns-then-not-is_named c next =
-    let spelling = text_of c.args.names.now.table.now in
-    let f = c.args.tree.now.trees in
-    element-step spelling f (codes "head") are_metadata next c.args.head (first-at c.args.tree.now.made f c.are_nodes.ensures.nodes.counted c.args.head c.requires)
-    ∙ ap (λ u. u && are_metadata (mapped spelling (children_of c.args.head f)) && next (mapped spelling (trees_from (next_of c.args.head f) f))) (sym c.is_named.ensures ∙ c.if-not-is_named.true)
 
 pub returns-then-not-is_metadata_node : goal.returns-then-not-is_metadata_node
 returns-then-not-is_metadata_node c next =

@@ -1,5 +1,5 @@
-use Rattle.hserialize.proofs.Names.{ap, drop_all, Bor, List, ℕ}
-use Rattle.hserialize.proofs.Output.{all_parts, all_put, part_put, part_failed, passed_on, next_lines}
+use Rattle.hserialize.proofs.Names.{Bor, List, ℕ}
+use Rattle.hserialize.proofs.Output.{part_put, part_failed, passed_on, next_lines}
 use Rattle.hserialize.proofs.writer.put_parts.Goals as goal
 
 pub returns-in_err-put : goal.returns-in_err-put
@@ -9,6 +9,3 @@ returns-in_err-put g c =
 pub loop-part-preserved : goal.loop-part-preserved
 loop-part-preserved g c =
     part_put _ _ _ _ _ _ _ c.loop-part.invariant (next_lines (λ (p : Bor (List ℕ)). p.now) c.args.parts.now c.loop-part.part-index _ c.loop-part-test.true) c.in_ok-put.ensures
-
-pub returns : goal.returns
-returns g c = all_put _ _ _ _ c.loop-part.invariant (ap all_parts (drop_all _ _ c.loop-part-test.false))

@@ -4,7 +4,7 @@ use Rattle.names.specs.Codes.{code_text}
 use Rattle.names.specs.declared.error.ParseError.{ParseError}
 use Rattle.hserialize.specs.declared.error_line.ErrorLine.{ErrorLine}
 use Rattle.hserialize.specs.ErrorLines.{printed_after_place}
-use Rattle.hserialize.proofs.error_line.put_error.Goals as goal
+use Rattle.hserialize.proofs.error_line.ErrorLine.put.Goals as goal
 
 -- a line is the digits of its place, and then the rest
 line_parts : (e : ParseError) → decimal e.at ++ printed_after_place e.code ≡ error_line e
