@@ -1,10 +1,11 @@
 -- What a feeding holds after more items, and after the end of the text.
-use Rattle.hparse.proofs.Names.{◌≡◌, ◌<◌, arith, ℕ, zero, suc, ◌+◌, true, false, length, List, [], ◌∷◌, ◌++◌, sym, refl, ap, ◌∙◌, subst, Result, Ok, Err, append-nil, append_assoc, map, MatchResult, IsPermutation, IsPermutation-refl, IsPermutation-append_right, IsPermutation-append_comm, ParseError, Placed, RawKind, Refusal, Texts, Grows, Hands, grows_not, CharItem, Character, InputError, characters_among, errors_among, items, bad_each, input_errors, run_items, start_kind, replacement_run, Tok, Event, Reports, Item, gives_item, IsRefused, AreFront, tokens_in, errors_in, HandsEvents, Entities, HasTaken, Manner, Began, WasHanded, Intake, HoldsItems, TakesItems, items_ran_out, items_stopped, items_refused, items_taken, Proceeds, EndsText, text_ran_out, text_stopped, text_taken}
+use Rattle.hparse.proofs.Names.{◌≡◌, ◌<◌, arith, ℕ, zero, suc, ◌+◌, true, false, length, List, [], ◌∷◌, ◌++◌, sym, refl, ap, ◌∙◌, subst, Result, Ok, Err, append-nil, append_assoc, map, MatchResult, IsPermutation, IsPermutation-refl, IsPermutation-append_right, IsPermutation-append_comm, ParseError, Placed, RawKind, Refusal, Texts, Grows, Hands, grows_not, CharItem, Character, InputError, characters_among, errors_among, items, bad_each, input_errors, run_items, start_kind, replacement_run, Tok, Event, Reports, Item, gives_item, IsRefused, AreFront, tokens_in, errors_in, HandsEvents, Entities, HasTaken, Manner, Began, WasHanded, Intake, HoldsItems, TakesItems, items_stopped, items_taken, Proceeds, EndsText, text_stopped, text_taken, Memory, by_sink, by_tag, by_memory}
 use Rattle.std.specs.Prelude.{is_err}
 use Rattle.std.specs.Bool.{◌==◌}
 use Rattle.std.specs.Char.{len_utf8}
 use Rattle.names.specs.Placed.{placed, error}
 use Rattle.names.specs.declared.error.ErrorCode.TheVariants.{ReplacedBytes}
+use Rattle.names.specs.declared.refusal.Refusal.TheVariants.{OutOfProfile}
 use Rattle.htoken.proofs.Handing.{reports_given}
 use Rattle.htoken.specs.Token.{Handed}
 use Rattle.htoken.specs.Tokens.{eof_of}
@@ -12,6 +13,7 @@ use Rattle.htoken.specs.declared.tokenizer.Tokenizer.{Tokenizer}
 use Rattle.htoken.specs.Tokenizing.{holds, in_ambiguous_ampersand, Takes, take_ran_out, take_refused, take_sink_refused, take_took, Finishes, finish_ran_out, finish_sink_refused, finish_took}
 use Rattle.htoken.proofs.Cutting.{tokens_in-append, errors_in-append, tokens_in-map, errors_in-map}
 use Rattle.hparse.specs.Holding.{WasFed}
+use Rattle.hparse.specs.Input.{end_in, input_text}
 use Rattle.hparse.proofs.Handing.{handed_more, handed_as}
 
 pub characters_among-append : (xs ys : List CharItem) → characters_among (xs ++ ys) ≡ characters_among xs ++ characters_among ys
@@ -83,10 +85,10 @@ module _ {S : Type 0} (gives : S → Item → Result (Unit {0}) Refusal → S �
 
     pub holds_error : (answer : Result (Unit {0}) Refusal) → new.stopped ≡ is_err answer → HandsEvents gives new.names old.sink (Reports e ∷ []) answer new.sink → TakesItems gives m began items (InputError e ∷ []) answer new
     holds_error (Err x) noted given =
-        items_stopped x h.taken (all_errors ++ e ∷ []) refl noted
+        items_stopped x refl noted (λ more bytes text. by_sink x h.taken (all_errors ++ e ∷ [])
         (handed_as gives new.names began new.sink (tokens_in h.taken ++ []) (tokens_in h.taken) (all_errors ++ e ∷ []) (all_errors ++ e ∷ []) (Err x) (append-nil (tokens_in h.taken)) (IsPermutation-refl (all_errors ++ e ∷ [])) (after_error (Err x) given))
-        (λ more end. subst (λ (x : List Placed). AreFront m.table (start_kind m.start) x end h.taken) (sym (characters_among-append items (InputError e ∷ more)))
-        (taken_front m.table (start_kind m.start) old.tokenizer old.names (characters_among items) h.taken h.has_taken (characters_among more) end))
+        (subst (λ (x : List Placed). AreFront m.table (start_kind m.start) x (end_in m bytes) h.taken) (sym (characters_among-append items (InputError e ∷ more)) ∙ text)
+        (taken_front m.table (start_kind m.start) old.tokenizer old.names (characters_among items) h.taken h.has_taken (characters_among more) (end_in m bytes))))
     holds_error (Ok u) noted given =
         items_taken refl (record {
           fed = items ++ InputError e ∷ [];
@@ -120,14 +122,14 @@ module _ {S : Type 0} (gives : S → Item → Result (Unit {0}) Refusal → S �
         → new.unfed ≡ [] → (answer : Result (Unit {0}) Refusal) → new.stopped ≡ is_err answer
         → Takes gives m.table (start_kind m.start) (characters_among items) (characters_among xs) h.taken new.names mid answer new.sink new.tokenizer → TakesItems gives m began items xs answer new
     holds_items xs mid opts unfed answer noted (take_ran_out events e handed front) =
-        items_ran_out (h.taken ++ events) _ e (noted ∙ ap is_err e) (after_events (errors_among xs) mid opts events (Ok tt) handed)
-        (λ more end. subst (λ (x : List Placed). AreFront m.table (start_kind m.start) x end (h.taken ++ events)) (with_more items xs more) (front (characters_among more) end))
+        items_stopped Memory e (noted ∙ ap is_err e) (λ more bytes text. by_memory (h.taken ++ events) _ (after_events (errors_among xs) mid opts events (Ok tt) handed)
+        (subst (λ (x : List Placed). AreFront m.table (start_kind m.start) x (end_in m bytes) (h.taken ++ events)) (with_more items xs more ∙ text) (front (characters_among more) (end_in m bytes))))
     holds_items xs mid opts unfed answer noted (take_refused name at events e handed refused) =
-        items_refused name at (tokens_in (h.taken ++ events)) _ e (noted ∙ ap is_err e) (after_events (errors_among xs) mid opts events (Ok tt) handed)
-        (λ more end. subst (λ (x : List Placed). IsRefused m.table (start_kind m.start) x end (tokens_in (h.taken ++ events)) name at) (with_more items xs more) (refused (characters_among more) end))
+        items_stopped (OutOfProfile name at) e (noted ∙ ap is_err e) (λ more bytes text. by_tag name at (tokens_in (h.taken ++ events)) _ (after_events (errors_among xs) mid opts events (Ok tt) handed)
+        (subst (λ (x : List Placed). IsRefused m.table (start_kind m.start) x (end_in m bytes) (tokens_in (h.taken ++ events)) name at) (with_more items xs more ∙ text) (refused (characters_among more) (end_in m bytes))))
     holds_items xs mid opts unfed answer noted (take_sink_refused x events e handed front) =
-        items_stopped x (h.taken ++ events) _ e (noted ∙ ap is_err e) (after_events (errors_among xs) mid opts events (Err x) handed)
-        (λ more end. subst (λ (x : List Placed). AreFront m.table (start_kind m.start) x end (h.taken ++ events)) (with_more items xs more) (front (characters_among more) end))
+        items_stopped x e (noted ∙ ap is_err e) (λ more bytes text. by_sink x (h.taken ++ events) _ (after_events (errors_among xs) mid opts events (Err x) handed)
+        (subst (λ (x : List Placed). AreFront m.table (start_kind m.start) x (end_in m bytes) (h.taken ++ events)) (with_more items xs more ∙ text) (front (characters_among more) (end_in m bytes))))
     holds_items xs mid opts unfed answer noted (take_took events e handed has) =
         items_taken e (record {
           fed = items ++ xs;
@@ -158,12 +160,15 @@ module _ {S : Type 0} (gives : S → Item → Result (Unit {0}) Refusal → S �
         subst (λ (x : List ParseError). WasHanded gives new.names began (tokens_in (h.taken ++ events)) (x ++ errors_in (h.taken ++ events)) answer new.sink) (append-nil (errors_among items))
         (after_events [] old.sink (no_errors [] refl) events answer given)
 
+    front_in : (end : ℕ) (bytes : List ℕ) → characters_among items ≡ input_text m bytes → end ≡ end_in m bytes → (events : List Event) → AreFront m.table (start_kind m.start) (characters_among items) end events
+        → AreFront m.table (start_kind m.start) (input_text m bytes) (end_in m bytes) events
+    front_in end bytes text at events front =
+        subst (λ (n : ℕ). AreFront m.table (start_kind m.start) (input_text m bytes) n events) at (subst (λ (x : List Placed). AreFront m.table (start_kind m.start) x end events) text front)
+
     pub ends_text : (end : ℕ) (answer : Result (Unit {0}) Refusal)
         → Finishes gives m.table (start_kind m.start) end (characters_among items) h.taken new.names old.sink answer new.sink → EndsText gives m began items end answer new
-    ends_text end answer (finish_ran_out events e handed front) =
-        text_ran_out (h.taken ++ events) (errors_among items ++ errors_in (h.taken ++ events)) e (at_end events (Ok tt) handed) front
-    ends_text end answer (finish_sink_refused x events e handed front) =
-        text_stopped x (h.taken ++ events) (errors_among items ++ errors_in (h.taken ++ events)) e (at_end events (Err x) handed) front
+    ends_text end answer (finish_ran_out events e handed front) = text_stopped Memory e (λ bytes text at. by_memory (h.taken ++ events) _ (at_end events (Ok tt) handed) (front_in end bytes text at (h.taken ++ events) front))
+    ends_text end answer (finish_sink_refused x events e handed front) = text_stopped x e (λ bytes text at. by_sink x (h.taken ++ events) _ (at_end events (Err x) handed) (front_in end bytes text at (h.taken ++ events) front))
     ends_text end answer (finish_took events e handed t) =
         text_taken (tokens_in (h.taken ++ events)) (errors_in (h.taken ++ events)) e t (at_end events (Ok tt) handed)
 
@@ -181,9 +186,10 @@ module _ {S : Type 0} (gives : S → Item → Result (Unit {0}) Refusal → S �
     -- one of them was refused
     pub stops_telling : (xs : List CharItem) (e : Refusal) → new.names ≡ old.names → new.stopped ≡ true → HandsEvents gives old.names old.sink (map Reports es) (Err e) new.sink → TakesItems gives m began items xs (Err e) new
     stops_telling xs e names_are noted given =
-        items_stopped e h.taken _ refl noted (subst (λ (n : Texts). WasHanded gives n began (tokens_in h.taken) ((errors_among items ++ es) ++ errors_in h.taken) (Err e) new.sink) (sym names_are) (told_after (Err e) new.sink given))
-        (λ more end. subst (λ (x : List Placed). AreFront m.table (start_kind m.start) x end h.taken) (with_more items xs more)
-        (taken_front m.table (start_kind m.start) old.tokenizer old.names (characters_among items) h.taken h.has_taken (characters_among xs ++ characters_among more) end))
+        items_stopped e refl noted (λ more bytes text. by_sink e h.taken _
+        (subst (λ (n : Texts). WasHanded gives n began (tokens_in h.taken) ((errors_among items ++ es) ++ errors_in h.taken) (Err e) new.sink) (sym names_are) (told_after (Err e) new.sink given))
+        (subst (λ (x : List Placed). AreFront m.table (start_kind m.start) x (end_in m bytes) h.taken) (with_more items xs more ∙ text)
+        (taken_front m.table (start_kind m.start) old.tokenizer old.names (characters_among items) h.taken h.has_taken (characters_among xs ++ characters_among more) (end_in m bytes))))
 
   -- or all were taken, and then characters
   pub holds_told : Grows old.names new.names → (xs : List CharItem) (mid : S) → HandsEvents gives old.names old.sink (map Reports (errors_among xs)) (Ok tt) mid → new.unfed ≡ [] → (answer : Result (Unit {0}) Refusal) → new.stopped ≡ is_err answer
@@ -204,14 +210,15 @@ module _ {S : Type 0} (gives : S → Item → Result (Unit {0}) Refusal → S �
   -- items that are handed over after others count as handed over with them
   after_unfed : (m : Manner) (began : Began S) (fed unfed items : List CharItem) (answer : Result (Unit {0}) Refusal) (new : Intake S) → TakesItems gives m began fed (unfed ++ items) answer new
       → TakesItems gives m began (fed ++ unfed) items answer new
-  after_unfed m began fed unfed items answer new (items_ran_out events errors e noted handed front) =
-      items_ran_out events errors e noted handed (λ more end. subst (λ (is : List CharItem). AreFront m.table (start_kind m.start) (characters_among is) end events) (regrouped fed unfed items more) (front more end))
-  after_unfed m began fed unfed items answer new (items_stopped x events errors e noted handed front) =
-      items_stopped x events errors e noted handed (λ more end. subst (λ (is : List CharItem). AreFront m.table (start_kind m.start) (characters_among is) end events) (regrouped fed unfed items more) (front more end))
-  after_unfed m began fed unfed items answer new (items_refused name at tokens errors e noted handed refused) =
-      items_refused name at tokens errors e noted handed
-      (λ more end. subst (λ (is : List CharItem). IsRefused m.table (start_kind m.start) (characters_among is) end tokens name at) (regrouped fed unfed items more) (refused more end))
+  after_unfed m began fed unfed items answer new (items_stopped e is noted refused) =
+      items_stopped e is noted (λ more bytes text. refused more bytes (ap characters_among (regrouped fed unfed items more) ∙ text))
   after_unfed m began fed unfed items answer new (items_taken e held) = items_taken e (subst (HoldsItems gives m began new) (sym (append_assoc fed unfed items)) held)
+
+  -- a step, where nothing was unfed
+  pub proceeds : (old new : Intake S) → old.unfed ≡ [] → (item : CharItem) (answer : Result (Unit {0}) Refusal)
+      → ((m : Manner) (began : Began S) (fed : List CharItem) → WasFed gives m began old fed → TakesItems gives m began fed (item ∷ []) answer new) → Proceeds gives old item answer new
+  proceeds old new none item answer takes m began before h =
+      subst (λ (b : List CharItem). TakesItems gives m began b (item ∷ []) answer new) (sym (append-nil h.fed) ∙ ap (λ (u : List CharItem). h.fed ++ u) (sym none) ∙ h.items_are) (takes m began h.fed h.was_fed)
 
   module _ (old new : Intake S) (answer : Result (Unit {0}) Refusal) where
     -- what a run does that comes after unfed characters: they are fed with it

@@ -15,7 +15,7 @@ pub use Rattle.hnodes.specs.Named.{AreOf}
 pub use Rattle.hnodes.specs.Rows.{attribute_of}
 pub use Rattle.hparse.specs.Answer.{Answers, accepted}
 pub use Rattle.hparse.specs.Fed.{piece_refused, piece_read}
-pub use Rattle.hparse.specs.Holding.{TakesItems, items_ran_out, items_stopped, items_refused, items_taken, Proceeds, text_ran_out, text_stopped, text_taken}
+pub use Rattle.hparse.specs.Holding.{TakesItems, items_stopped, items_taken, Proceeds, text_stopped, text_taken}
 pub use Rattle.hparse.specs.Input.{tokens_handed, errors_handed, settled_in, reads_in, WasHanded, IsRefusedFor, by_sink, by_tag, by_bytes, by_memory, IsTaken}
 pub use Rattle.hparse.specs.Intake.{Intake}
 pub use Rattle.hparse.specs.Parse.{first_state, manner, Parses}

@@ -1,9 +1,9 @@
 -- What one piece more does to a reading, and what the input's end does.
-use Rattle.hparse.proofs.Names.{◌≡◌, ℕ, ◌-◌, Bool, true, false, cond, eqb, List, [], ◌∷◌, ◌++◌, length, map, Option, None, Some, sym, refl, ap, ◌∙◌, subst, Result, Ok, Err, append-nil, append_assoc, inl, inr, ◌⊎◌, AreNames, ParseError, Placed, Refusal, Memory, Hands, BadBytes, Policy, Read, CharItem, items, characters_among, errors_among, HasFed, start_kind, Event, Item, IsRefused, AreFront, tokens_in, Reading, Manner, Began, settled_in, reads_in, WasHanded, IsRefusedFor, by_sink, by_tag, by_bytes, by_memory, Comes, Intake, HoldsItems, TakesItems, items_ran_out, items_stopped, items_refused, items_taken, Proceeds, EndsText, text_ran_out, text_stopped, text_taken, Refuses, HasRead, FeedsPiece, piece_refused, piece_read, EndsInput, characters_among-items}
+use Rattle.hparse.proofs.Names.{◌≡◌, ℕ, ◌-◌, Bool, true, false, cond, eqb, List, [], ◌∷◌, ◌++◌, length, map, Option, None, Some, sym, refl, ap, ◌∙◌, subst, Result, Ok, Err, append-nil, append_assoc, inl, inr, ◌⊎◌, AreNames, ParseError, Placed, Refusal, Memory, Hands, BadBytes, Policy, Read, CharItem, items, characters_among, errors_among, HasFed, start_kind, Item, AreFront, Reading, Manner, Began, settled_in, reads_in, WasHanded, IsRefusedFor, by_bytes, by_memory, Comes, Intake, HoldsItems, TakesItems, items_stopped, items_taken, Proceeds, EndsText, text_stopped, text_taken, Refuses, HasRead, FeedsPiece, piece_refused, piece_read, EndsInput, characters_among-items}
 use Rattle.std.specs.Str.Lossy.{utf8_valid_len}
 use Rattle.std.proofs.lemmas.Bool.{eqb-true}
 use Rattle.std.proofs.lemmas.List.{map-append}
-use Rattle.names.specs.declared.refusal.Refusal.TheVariants.{NotUtf8, TooLarge, OutOfProfile}
+use Rattle.names.specs.declared.refusal.Refusal.TheVariants.{NotUtf8, TooLarge}
 use Rattle.htext.specs.declared.BadBytes.TheVariants as bad
 use Rattle.htext.specs.Text.{character_of, read_len, refusal_of, refusal_with}
 use Rattle.htext.specs.Decoding.{Feeds, ran_out, sink_refused, took_all, EndsDecoding, end_refused, end_reached, HandsOn, answer_at_end}
@@ -60,9 +60,7 @@ whole_from a b r false e h = absurd cc
 module _ {S : Type 0} (gives : S → Item → Result (Unit {0}) Refusal → S → Type 0) (m : Manner) (began : Began S) where
   -- an item that was handed over
   was_taken : (before : List CharItem) (x : CharItem) (new : Intake S) → TakesItems gives m began before (x ∷ []) (Ok tt) new → HoldsItems gives m began new (before ++ x ∷ [])
-  was_taken before x new (items_ran_out events errors e noted handed front) = absurd cc
-  was_taken before x new (items_stopped r events errors e noted handed front) = absurd cc
-  was_taken before x new (items_refused name at tokens errors e noted handed refused) = absurd cc
+  was_taken before x new (items_stopped r is noted refused) = absurd cc
   was_taken before x new (items_taken e held) = held
 
   -- an input of this text is refused
@@ -70,24 +68,8 @@ module _ {S : Type 0} (gives : S → Item → Result (Unit {0}) Refusal → S �
   Stops e new xs = (new.stopped ≡ true) × ((bytes : List ℕ) → characters_among xs ≡ input_text m bytes → IsRefusedFor gives m began bytes new.names new.sink e)
 
   was_refused : (before : List CharItem) (x : CharItem) (more : List CharItem) (new : Intake S) (e : Refusal) → TakesItems gives m began before (x ∷ []) (Err e) new → Stops e new (before ++ x ∷ more)
-  was_refused before x more new e (items_ran_out events errors is noted handed front) =
-      let why : Memory ≡ e = cc in (
-        noted,
-        λ bytes text. subst (IsRefusedFor gives m began bytes new.names new.sink) why
-            (by_memory events errors handed (subst (λ (t : List Placed). AreFront m.table (start_kind m.start) t (end_in m bytes) events) text (front more (end_in m bytes)))),
-      )
-  was_refused before x more new e (items_stopped r events errors is noted handed front) =
-      let same : r ≡ e = cc in (
-        noted,
-        λ bytes text. subst (IsRefusedFor gives m began bytes new.names new.sink) same
-            (by_sink r events errors handed (subst (λ (t : List Placed). AreFront m.table (start_kind m.start) t (end_in m bytes) events) text (front more (end_in m bytes)))),
-      )
-  was_refused before x more new e (items_refused name at tokens errors is noted handed refused) =
-      let why : OutOfProfile name at ≡ e = cc in (
-        noted,
-        λ bytes text. subst (IsRefusedFor gives m began bytes new.names new.sink) why
-            (by_tag name at tokens errors handed (subst (λ (t : List Placed). IsRefused m.table (start_kind m.start) t (end_in m bytes) tokens name at) text (refused more (end_in m bytes)))),
-      )
+  was_refused before x more new e (items_stopped r is noted refused) =
+      let same : r ≡ e = cc in (noted, λ bytes text. subst (IsRefusedFor gives m began bytes new.names new.sink) same (refused more bytes text))
   was_refused before x more new e (items_taken is held) = absurd cc
 
   -- items that were handed over, one after another
@@ -137,27 +119,17 @@ module _ {S : Type 0} (gives : S → Item → Result (Unit {0}) Refusal → S �
 
     -- the text before the bytes that are refused is read
     pub refuses_bytes : EndsText gives m began held at (Ok tt) new → Refuses gives m began held refusal refusal new
-    refuses_bytes (text_ran_out events errors e handed front) = absurd cc
-    refuses_bytes (text_stopped r events errors e handed front) = absurd cc
+    refuses_bytes (text_stopped r is refused) = absurd cc
     refuses_bytes (text_taken tokens errors e t handed) = λ bytes is r.
         by_bytes refusal tokens errors (errors_among held ++ errors) handed
         (subst (λ (n : ℕ). Tokens m.table (start_kind m.start) (input_text m bytes) n tokens errors) (place_of (how_of m) at bytes refusal r here)
         (subst (λ (x : List Placed). Tokens m.table (start_kind m.start) x at tokens errors) (text_of bytes is) t)) r
 
-    -- a front of it is one of the input's text
-    front_in : (bytes : List ℕ) → held ≡ items (reads_in m bytes) → refusal_of (how_of m) bytes ≡ Some refusal → (events : List Event) → AreFront m.table (start_kind m.start) (characters_among held) at events
-        → AreFront m.table (start_kind m.start) (input_text m bytes) (end_in m bytes) events
-    front_in bytes is r events front =
-        subst (λ (n : ℕ). AreFront m.table (start_kind m.start) (input_text m bytes) n events) (place_of (how_of m) at bytes refusal r here)
-        (subst (λ (x : List Placed). AreFront m.table (start_kind m.start) x at events) (text_of bytes is) front)
-
     -- it is refused
     pub refuses_text : (earlier : Refusal) → EndsText gives m began held at (Err earlier) new → Refuses gives m began held refusal earlier new
-    refuses_text earlier (text_ran_out events errors e handed front) =
-        let same : Memory ≡ earlier = cc in λ bytes is r. subst (IsRefusedFor gives m began bytes new.names new.sink) same (by_memory events errors handed (front_in bytes is r events front))
-    refuses_text earlier (text_stopped x events errors e handed front) =
+    refuses_text earlier (text_stopped x why refused) =
         let same : x ≡ earlier = cc in
-        λ bytes is r. by_sink earlier events errors (subst (λ (y : Refusal). WasHanded gives new.names began (tokens_in events) errors (Err y) new.sink) same handed) (front_in bytes is r events front)
+        λ bytes is r. subst (IsRefusedFor gives m began bytes new.names new.sink) same (refused bytes (text_of bytes is) (place_of (how_of m) at bytes refusal r here))
     refuses_text earlier (text_taken tokens errors e t handed) = absurd cc
 
   module _ (bytes piece : List ℕ) (old : Reading S) (h : HasRead gives m began old bytes) where
@@ -250,16 +222,9 @@ module _ {S : Type 0} (gives : S → Item → Result (Unit {0}) Refusal → S �
         end_of =
             end_is ∙ sym (whole_from (end_in m bytes) (length bytes) (refusal_with m.bad (utf8_valid_len bytes - end_in m bytes) (end_in m bytes)) (eqb (end_in m bytes) (length bytes)) refl unrefused)
 
-        front_of : (events : List Event) → AreFront m.table (start_kind m.start) (characters_among (items (reads_in m bytes))) end events → AreFront m.table (start_kind m.start) (input_text m bytes) (end_in m bytes) events
-        front_of events front =
-            subst (λ (n : ℕ). AreFront m.table (start_kind m.start) (input_text m bytes) n events) end_of
-            (subst (λ (x : List Placed). AreFront m.table (start_kind m.start) x end events) (characters_among-items (reads_in m bytes)) front)
-
         by_text : (answer : Result (Unit {0}) Refusal) → EndsText gives m began (items (reads_in m bytes)) end answer new.feeding → EndsInput gives m began bytes answer new
-        by_text answer (text_ran_out events errors is handed front) =
-            subst (Comes gives m began bytes new.feeding.names new.feeding.sink) (sym is) (by_memory events errors handed (front_of events front))
-        by_text answer (text_stopped e events errors is handed front) =
-            subst (Comes gives m began bytes new.feeding.names new.feeding.sink) (sym is) (by_sink e events errors handed (front_of events front))
+        by_text answer (text_stopped e is refused) =
+            subst (Comes gives m began bytes new.feeding.names new.feeding.sink) (sym is) (refused bytes (characters_among-items (reads_in m bytes)) end_of)
         by_text answer (text_taken tokens errors is t handed) =
             subst (Comes gives m began bytes new.feeding.names new.feeding.sink) (sym is) (record {
               tokens = tokens;

@@ -1,16 +1,14 @@
 -- What a feeding holds, and what its calls do. It began as `began`.
 use Rattle.std.specs.Prelude.{◌≡◌, ℕ, true, false, List, [], ◌∷◌, ◌++◌, Some, Result, Ok, Err}
 use Rattle.names.specs.declared.error.ParseError.{ParseError}
-use Rattle.names.specs.declared.raw.RefusedName.{RefusedName}
 use Rattle.names.specs.declared.refusal.Refusal.{Refusal}
-use Rattle.names.specs.declared.refusal.Refusal.TheVariants as refusal
 use Rattle.htext.specs.Items.{CharItem, items, characters_among, errors_among}
 use Rattle.htext.specs.Text.{refusal_of}
 use Rattle.htoken.specs.Standing.{start_kind}
 use Rattle.htoken.specs.Token.{Tok, Event, Item}
-use Rattle.htoken.specs.Tokens.{Tokens, IsRefused, AreFront, tokens_in, errors_in}
+use Rattle.htoken.specs.Tokens.{Tokens, tokens_in, errors_in}
 use Rattle.htoken.specs.Tokenizing.{HasTaken}
-use Rattle.hparse.specs.Input.{Manner, Began, how_of, reads_in, WasHanded, IsRefusedFor}
+use Rattle.hparse.specs.Input.{Manner, Began, how_of, reads_in, input_text, end_in, WasHanded, IsRefusedFor}
 use Rattle.hparse.specs.Intake.{Intake}
 
 -- The tokenizer was fed the characters among these items; the sink was handed the tokens and errors that it gave, and the errors among the items.
@@ -29,21 +27,11 @@ pub record HoldsItems {S : Type 0} (gives : S → Item → Result (Unit {0}) Ref
   pub was_fed : WasFed gives m began feeding fed
 
 module _ {S : Type 0} (gives : S → Item → Result (Unit {0}) Refusal → S → Type 0) where
-  -- What handing over items does, after others: memory ran out, or the sink refused what the text gives, or the text is refused, whatever
-  -- comes after; or they are held too.
+  -- What handing over items does, after others: each input whose text begins so is refused, or they are held too.
   pub data TakesItems (m : Manner) (began : Began S) (before items : List CharItem) (answer : Result (Unit {0}) Refusal) (new : Intake S) : Type 0 where
-    items_ran_out : (events : List Event) (errors : List ParseError) → answer ≡ Err refusal.Memory → new.stopped ≡ true
-        → WasHanded gives new.names began (tokens_in events) errors (Ok tt) new.sink
-        → ((more : List CharItem) (end : ℕ) → AreFront m.table (start_kind m.start) (characters_among (before ++ (items ++ more))) end events)
-        → TakesItems m began before items answer new
-    items_stopped : (e : Refusal) (events : List Event) (errors : List ParseError) → answer ≡ Err e → new.stopped ≡ true
-        → WasHanded gives new.names began (tokens_in events) errors (Err e) new.sink
-        → ((more : List CharItem) (end : ℕ) → AreFront m.table (start_kind m.start) (characters_among (before ++ (items ++ more))) end events)
-        → TakesItems m began before items answer new
-    items_refused : (name : RefusedName) (at : ℕ) (tokens : List Tok) (errors : List ParseError) → answer ≡ Err (refusal.OutOfProfile name at)
-        → new.stopped ≡ true → WasHanded gives new.names began tokens errors (Ok tt) new.sink
-        → ((more : List CharItem) (end : ℕ) → IsRefused m.table (start_kind m.start) (characters_among (before ++ (items ++ more))) end tokens name at)
-        → TakesItems m began before items answer new
+    items_stopped : (e : Refusal) → answer ≡ Err e → new.stopped ≡ true
+        → ((more : List CharItem) (bytes : List ℕ) → characters_among (before ++ (items ++ more)) ≡ input_text m bytes
+        → IsRefusedFor gives m began bytes new.names new.sink e) → TakesItems m began before items answer new
     items_taken : answer ≡ Ok tt → HoldsItems gives m began new (before ++ items) → TakesItems m began before items answer new
 
   -- a step of a feeding
@@ -51,14 +39,10 @@ module _ {S : Type 0} (gives : S → Item → Result (Unit {0}) Refusal → S �
   Proceeds old item answer new = (m : Manner) (began : Began S) (before : List CharItem) → HoldsItems gives m began old before
       → TakesItems m began before (item ∷ []) answer new
 
-  -- What the end of the text does, after these items: memory ran out, or the sink refused what the text gives, or it took all of that.
+  -- What the end of the text does, after these items: each input of this text that is read so far is refused, or the sink took all of it.
   pub data EndsText (m : Manner) (began : Began S) (items : List CharItem) (end : ℕ) (answer : Result (Unit {0}) Refusal) (new : Intake S) : Type 0 where
-    text_ran_out : (events : List Event) (errors : List ParseError) → answer ≡ Err refusal.Memory
-        → WasHanded gives new.names began (tokens_in events) errors (Ok tt) new.sink
-        → AreFront m.table (start_kind m.start) (characters_among items) end events → EndsText m began items end answer new
-    text_stopped : (e : Refusal) (events : List Event) (errors : List ParseError) → answer ≡ Err e
-        → WasHanded gives new.names began (tokens_in events) errors (Err e) new.sink
-        → AreFront m.table (start_kind m.start) (characters_among items) end events → EndsText m began items end answer new
+    text_stopped : (e : Refusal) → answer ≡ Err e → ((bytes : List ℕ) → characters_among items ≡ input_text m bytes → end ≡ end_in m bytes
+        → IsRefusedFor gives m began bytes new.names new.sink e) → EndsText m began items end answer new
     text_taken : (tokens : List Tok) (errors : List ParseError) → answer ≡ Ok tt
         → Tokens m.table (start_kind m.start) (characters_among items) end tokens errors
         → WasHanded gives new.names began tokens (errors_among items ++ errors) (Ok tt) new.sink → EndsText m began items end answer new

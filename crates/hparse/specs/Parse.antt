@@ -1,7 +1,6 @@
 -- What parsing the bytes of a document or of a fragment gives: a tree and parse errors, or what they are refused for.
-use Rattle.std.specs.Prelude.{◌≡◌, ℕ, Bool, false, not, ◌&&◌, ◌||◌, ◌==◌, nat_le, bytes_eq, codes, List, [], ◌∷◌, ◌++◌, length, map, None, Some, Result, Ok}
+use Rattle.std.specs.Prelude.{◌≡◌, ℕ, Bool, not, ◌&&◌, ◌||◌, nat_le, bytes_eq, codes, List, ◌++◌, length, map, None, Some, Result, Ok}
 use Rattle.std.specs.Prelude.{Err}
-use Rattle.std.specs.List.{list_all}
 use Rattle.std.specs.List.Sorted.{IsPermutation, IsSorted}
 use Rattle.names.specs.declared.error.ParseError.{ParseError}
 use Rattle.names.specs.declared.raw.RefusedName.{RefusedName}
@@ -25,6 +24,7 @@ use Rattle.hadopt.specs.Site.{Goes, Refused}
 use Rattle.hmodes.specs.Beginning.{Limits, document_begins, fragment_begins}
 use Rattle.hmodes.specs.State.{State}
 use Rattle.hmodes.specs.Step.{Steps}
+use Rattle.hserialize.specs.Plain.{is_plain_name}
 use Rattle.hparse.specs.Answer.{error_cmp}
 use Rattle.hparse.specs.Input.{Manner, how_of, reads_in, input_text}
 use Rattle.hparse.specs.Taken.{token_placed}
@@ -96,16 +96,9 @@ module _ (opts : ParseOptions) (parse_case : ParseCase) (bytes : List ℕ) where
         → IsPermutation (input_errors (reads_in (manner opts parse_case) bytes) ++ (errors ++ state.site.errors)) sorted → IsSorted error_cmp sorted
         → refusal_of (policy opts parse_case) bytes ≡ None → Parses (Ok (record { trees = state.site.nodes.trees; errors = sorted }))
 
--- a lower letter, and a byte of a context's name after its first: a lower letter, a digit, `-`, `_` or `:`
-abbrev pub is_lower : ℕ → Bool
-is_lower byte = nat_le 97 byte && nat_le byte 122
-
-abbrev pub is_name_byte : ℕ → Bool
-is_name_byte byte = is_lower byte || (nat_le 48 byte && nat_le byte 57) || byte == 45 || byte == 95 || byte == 58
-
+-- the form of a context's name: a lower letter, then lower letters, digits, `-`, `_` and `:`
 abbrev pub is_context_name : List ℕ → Bool
-is_context_name [] = false
-is_context_name (first ∷ others) = is_lower first && list_all is_name_byte others
+is_context_name = is_plain_name
 
 -- whether this may be the name of a fragment's context
 abbrev pub is_context : List ℕ → Bool

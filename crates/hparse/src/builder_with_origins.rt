@@ -148,6 +148,7 @@ impl<'q> TokenSink for BuilderWithOrigins<'q> {
         self.place_text(ch, at)
     }
 
+    #[tactic(auto, using(crate::proofs::Placed::hands_without, crate::proofs::Placed::is_without))]
     #[inline(always)]
     fn take_run(&mut self, run: &str, at: u64) -> Result<(), Refusal> {
         if self.makings.is_none() {
@@ -161,6 +162,7 @@ impl<'q> TokenSink for BuilderWithOrigins<'q> {
         self.makings.is_none() && self.builder.may_take_with_references()
     }
 
+    #[tactic(auto, using(crate::proofs::Placed::with_references_without, crate::proofs::Placed::is_without))]
     #[inline(always)]
     fn take_with_references(&mut self, run: &str, at: u64) -> Result<bool, Refusal> {
         if self.makings.is_none() {
@@ -169,6 +171,7 @@ impl<'q> TokenSink for BuilderWithOrigins<'q> {
         Ok(false)
     }
 
+    #[tactic(auto, using(crate::proofs::Placed::hands_without, crate::proofs::Placed::is_without))]
     #[inline(always)]
     fn take_bad(&mut self, count: usize, at: u64) -> Result<(), Refusal> {
         if self.makings.is_none() {

@@ -29,7 +29,6 @@ pub struct Collected {
 }
 
 impl Collected {
-    /// Nothing yet.
     pub fn new(alloc: Global) -> Collected
         ensures tokens { result.tokens.items ≡ [] }
         ensures errors { result.errors.items ≡ [] }

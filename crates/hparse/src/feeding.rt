@@ -1,14 +1,12 @@
 //! A tokenizer that is fed the text of an input.
 
 ghost use Rattle.std.specs.Prelude.{◌≡◌, ◌+◌, ◌≤◌, List, [], true};
-ghost use Rattle.hparse.specs.Vocabulary.{AreNames, Hands, IsTable, MAX_INPUT, CharItem, bad_each, input_errors, gives_item, HoldsItems, EndsText, Refuses, Manner, Began};
+ghost use Rattle.hparse.specs.Vocabulary.{AreNames, Hands, MAX_INPUT, CharItem, bad_each, input_errors, gives_item, HoldsItems, EndsText, Refuses, Manner, Began};
 
-use charref::Table;
 use hmarkup::ErrorSink;
 use htext::CharSink;
-use htoken::{Start, TokenSink, Tokenizer};
+use htoken::{TokenSink, Tokenizer};
 use names::{ErrorCode, Names, ParseError, Refusal};
-use std::alloc::Global;
 use std::marker::Model;
 
 /// A tokenizer, the names of its tokens, and the sink that takes them.
@@ -48,29 +46,6 @@ fn tell_bad<S: ErrorSink>(count: usize, at: u64, sink: &mut S) -> Result<(), Ref
 }
 
 impl<'t, S: TokenSink> Feeding<'t, S> {
-    /// A tokenizer that has been fed nothing, over this table of references.
-    pub fn new(
-        alloc: Global,
-        table: &'t Table,
-        start: Start,
-        names: Names,
-        sink: S,
-    ) -> Feeding<'t, S>
-        ensures all_fed { result.unfed ≡ [] }
-        ensures table { IsTable table.now }
-        ensures names { AreNames result.names }
-        ensures holds { (m : Manner) → m.table ≡ table.now → m.start ≡ start
-            → HoldsItems (gives_item S.gives S.gives_token) m (record { names = names; sink = sink }) result [] }
-    {
-        prove!(names.are_names());
-        Feeding {
-            names,
-            tokenizer: Tokenizer::new(alloc, table, start),
-            sink,
-            stopped: false,
-        }
-    }
-
     /// Nothing waits to be fed, as is always so between calls: to be said in a `prove!`.
     pub fn all_fed(&self) -> bool
         ensures holds { result ≡ true }

@@ -1,7 +1,7 @@
 //! Where the nodes of a tree came from.
 
 ghost use Rattle.std.specs.Prelude.{◌≡◌, ◌<◌, replicate, Some, IfOk};
-ghost use Rattle.hparse.specs.Vocabulary.{again_laid, are_same, element_name, implied, is_own, making, making_of, noted, numbers, own_name, tag_of, token_of, with_made};
+ghost use Rattle.hparse.specs.Vocabulary.{are_same, element_name, implied, making, making_of, noted, numbers, own_name, tag_of, token_of, with_made};
 
 use hnodes::{NodeId, NodeKind, Tree};
 use htoken::Token;
@@ -63,7 +63,6 @@ pub(crate) fn own_name(token: &Token) -> Option<NameId>
     }
 }
 
-/// Whether both are names, and the same one.
 fn are_same(own: Option<NameId>, name: Option<NameId>) -> bool
     ensures { result ≡ are_same numbers own name }
 {
@@ -90,20 +89,13 @@ fn making_of(at: u64, first: u64, kind: NodeKind, own: bool) -> Origin
 }
 
 impl Maker {
-    /// Whether a node is its own element: the last node that its step made, if that has its name.
-    fn is_own(&self, tree: &Tree, node: NodeId) -> bool
-        requires { node < tree.now.made }
-        ensures { result ≡ is_own numbers self.now.own tree.now node }
-    {
-        node.index() + 1 == tree.made() as usize && are_same(self.own, tree.name(node))
-    }
-
-    /// How it made a node.
+    /// How it made a node: its own element is the last node that its step made, if that has its name.
     fn making(&self, tree: &Tree, node: NodeId) -> Origin
         requires { node < tree.now.made }
         ensures { result ≡ making numbers self.now.at self.now.first self.now.own tree.now node }
     {
-        let own = self.is_own(tree, node);
+        let is_last = node.index() + 1 == tree.made() as usize;
+        let own = is_last && are_same(self.own, tree.name(node));
         making_of(self.at, self.first, tree.kind(node), own)
     }
 
@@ -121,7 +113,7 @@ impl Maker {
 
 /// Notes in a list that an element was made again of another.
 #[tactic(auto, using(crate::proofs::NodesMade::noted_in, crate::proofs::NodesMade::noted_out))]
-fn note_again(list: &mut [Origin], element: NodeId, of: NodeId)
+pub(crate) fn note_again(list: &mut [Origin], element: NodeId, of: NodeId)
     ensures { list.new ≡ noted (element, of) list.old }
 {
     let index = element.index();
@@ -132,14 +124,5 @@ fn note_again(list: &mut [Origin], element: NodeId, of: NodeId)
             in_source: false,
             again_of: Some(of),
         };
-    }
-}
-
-/// Notes in a list which elements were made again, each with the element that it was made of.
-pub(crate) fn lay_again(list: &mut [Origin], again: &[(NodeId, NodeId)])
-    ensures { list.new ≡ again_laid again.now list.old }
-{
-    for (element, of) in again {
-        note_again(list, *element, *of);
     }
 }

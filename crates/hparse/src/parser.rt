@@ -7,7 +7,7 @@ use crate::builder_with_origins::BuilderWithOrigins;
 use crate::collect::sort_errors;
 use crate::context::is_context;
 use crate::options::Options;
-use crate::origins::{Origin, lay_again};
+use crate::origins::{Origin, note_again};
 use crate::parsed::Parsed;
 use crate::reader::read_to_end;
 use crate::reading::Reading;
@@ -173,13 +173,11 @@ pub fn parse_reader<R: Source>(
 fn with_again(places: Option<Vec<Origin>>, again: &[(NodeId, NodeId)]) -> Option<Vec<Origin>>
     ensures { option_map (λ list. list.items) result ≡ option_map (λ list. again_laid again.now list.items) places }
 {
-    match places {
-        Some(mut list) => {
-            lay_again(&mut list, again);
-            Some(list)
-        }
-        None => None,
+    let mut list = places?;
+    for (element, of) in again {
+        note_again(&mut list, *element, *of);
     }
+    Some(list)
 }
 
 /// What was built, with the errors in their order, and with the elements noted that were made again.

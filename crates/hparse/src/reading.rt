@@ -6,7 +6,7 @@ ghost use Rattle.hparse.specs.Vocabulary.{gives_item, HasRead, FeedsPiece, EndsI
 use crate::feeding::Feeding;
 use crate::options::Options;
 use htext::{Bom, Decoder};
-use htoken::{Start, TokenSink};
+use htoken::{Start, TokenSink, Tokenizer};
 use names::{Names, Refusal};
 use std::alloc::Global;
 
@@ -48,9 +48,15 @@ impl<'t, S: TokenSink> Reading<'t, S> {
             (record { table = options.now.table.now; start = start; bad = options.now.bad_bytes; limit = options.now.limits.input })
             (record { names = names; sink = sink }) result [] }
     {
+        prove!(names.are_names());
         Reading {
             decoder: Decoder::new(alloc, bom(start), options.bad_bytes, options.limits.input()),
-            feeding: Feeding::new(alloc, options.table, start, names, sink),
+            feeding: Feeding {
+                names,
+                tokenizer: Tokenizer::new(alloc, options.table, start),
+                sink,
+                stopped: false,
+            },
         }
     }
 
@@ -69,7 +75,6 @@ impl<'t, S: TokenSink> Reading<'t, S> {
         }
     }
 
-    /// Ends the input.
     pub fn end(&mut self) -> Result<(), Refusal>
         ensures { (m : Manner) (began : Began S) (bytes : List ℕ) → HasRead (gives_item S.gives S.gives_token) m began self.old bytes
             → EndsInput (gives_item S.gives S.gives_token) m began bytes result self.new }
@@ -80,7 +85,6 @@ impl<'t, S: TokenSink> Reading<'t, S> {
         }
     }
 
-    /// The names and the sink.
     pub fn into_parts(self) -> (Names, S)
         ensures names { result.0 ≡ self.entry.feeding.names }
         ensures sink { result.1 ≡ self.entry.feeding.sink }

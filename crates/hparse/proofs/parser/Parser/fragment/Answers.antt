@@ -1,4 +1,4 @@
-use Rattle.hparse.proofs.Names.{◌≡◌, [], true, inl, inr, err_from_is_err_and, refl, ap, sym, ◌∙◌, subst, tag_named, RawKind, Building, BuilderWithOrigins, HasRead, Began, fragment, BeginsIn, a_fragment, takes_item_with_origins, options_of}
+use Rattle.hparse.proofs.Names.{◌≡◌, [], true, ap, sym, ◌∙◌, subst, tag_named, RawKind, Building, BuilderWithOrigins, HasRead, Began, fragment, BeginsIn, a_fragment, takes_item_with_origins, options_of}
 use Rattle.names.specs.Sets.{raw_kind}
 use Rattle.htoken.specs.declared.token.Start.TheVariants as start
 use Rattle.hparse.specs.Parse.{is_context}
@@ -24,18 +24,3 @@ returns c =
         has_read = subst (λ (k : RawKind). HasRead takes_item_with_origins (record { table = c.args.options.now.table.now; start = start.Context k; bad = c.args.options.now.bad_bytes; limit = c.args.options.now.limits.input }) began c.in_ok-begun.field-0.reading.value []) kind begun.has_read;
       },
     )
-
-pub returns-then-not-is_context : goal.returns-then-not-is_context
-returns-then-not-is_context c = inr (sym c.if-not-is_context.ensures, refl)
-
-pub returns-in_err-name : goal.returns-in_err-name
-returns-in_err-name c = let e = err_from_is_err_and c.from_residual.result c.from_residual.ensures.1 in rw (e.1, e.2) (inl (sym c.if-not-is_context.ensures, refl))
-
-pub returns-in_err-builder : goal.returns-in_err-builder
-returns-in_err-builder c =
-    let e = err_from_is_err_and c.from_residual-in_err-builder.result c.from_residual-in_err-builder.ensures.1 in
-    rw (e.1, e.2, c.in_err-builder.ensures) (inl (sym c.if-not-is_context.ensures, refl))
-
-pub returns-in_err-begun : goal.returns-in_err-begun
-returns-in_err-begun c =
-    let e = err_from_is_err_and c.from_residual-in_err-begun.result c.from_residual-in_err-begun.ensures.1 in rw (e.1, e.2) (inl (sym c.if-not-is_context.ensures, refl))

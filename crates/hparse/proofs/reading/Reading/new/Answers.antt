@@ -1,4 +1,7 @@
-use Rattle.hparse.proofs.Names.{refl, ◌∙◌, rules}
+use Rattle.hparse.proofs.Names.{[], refl, ap, sym, ◌∙◌, items, gives_item}
+use Rattle.htext.proofs.Advancing.{nothing_settled}
+use Rattle.hparse.specs.Input.{bom_of}
+use Rattle.hparse.proofs.Handing.{handed_none}
 use Rattle.hparse.proofs.reading.Reading.new.Goals as goal
 
 pub returns : goal.returns
@@ -6,8 +9,12 @@ returns g c = record {
   fits = rw (← c.input.ensures.value) c.input.ensures.most;
   how_is = c.new.ensures.how ∙ rw (c.bom.ensures, c.input.ensures.value) refl;
   fed = c.new.ensures.fed;
-  holds = search rules;
-  all_fed = c.new-2.ensures.all_fed;
+  holds = record {
+    fed = [];
+    items_are = ap items (sym (nothing_settled (bom_of c.args.start) c.args.options.now.bad_bytes c.args.options.now.limits.input));
+    was_fed = record { taken = []; has_taken = c.new-2.ensures.taken c.args.names; handed = handed_none (gives_item g.S.ErrorSink.gives g.S.TokenSink.gives_token) _; unstopped = refl };
+  };
+  all_fed = refl;
   is_table = c.new-2.ensures.table;
-  are_names = c.new-2.ensures.names;
+  are_names = c.are_names.ensures.names;
 }
