@@ -1,5 +1,5 @@
 -- Texts between quotes, as they are printed.
-use Rattle.std.specs.Prelude.{ℕ, ◌/◌, ◌%◌, Bool, not, ◌&&◌, ◌||◌, List, [], ◌∷◌, ◌++◌, ◌==◌, nat_le, nat_lt, if◌then◌else◌, codes}
+use Rattle.std.specs.Prelude.{◌≡◌, ℕ, ◌/◌, ◌%◌, Bool, not, ◌&&◌, ◌||◌, List, [], ◌∷◌, ◌++◌, ◌==◌, nat_le, nat_lt, if◌then◌else◌, codes, String, string_bytes}
 use Rattle.std.specs.Char.{digit_char}
 use Rattle.std.specs.List.{flat_map}
 
@@ -22,3 +22,7 @@ quoted text = codes "\"" ++ quote_escaped text ++ codes "\""
 -- whether a byte is there as it is
 abbrev pub is_unescaped : ℕ → Bool
 is_unescaped b = nat_le 32 b && not (b == 34 || b == 92)
+
+-- these bytes were added at the end of a text
+abbrev pub Adds : {A : Type 0} → String A → String A → List ℕ → Type 0
+Adds old new bytes = string_bytes new ≡ string_bytes old ++ bytes

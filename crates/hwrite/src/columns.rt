@@ -20,13 +20,12 @@ pub fn line_column(text: &[u8], at: u64) -> (usize, usize)
 }
 
 /// The line and the column of a byte, from those of one before it.
-fn place_after(text: &[u8], from: usize, end: usize, place: (usize, usize)) -> (usize, usize)
+fn place_after(text: &[u8], from: usize, end: usize, mut place: (usize, usize)) -> (usize, usize)
     requires order { (from ≤ end) × (end ≤ length text.now) }
     requires from { (place.0 ≡ line_at text.now from) × (place.1 ≡ column_at text.now from) }
     ensures line { result.0 ≡ line_at text.now end }
     ensures column { result.1 ≡ column_at text.now end }
 {
-    let mut place = place;
     for index in from..end {
         let before_lf = text.get(index + 1) == Some(&b'\n');
         place = next_place(place, text[index], before_lf);

@@ -37,7 +37,6 @@ pub fn run<S: Source, W: Target>(
     answer
 }
 
-/// The tokens of a document.
 fn run_tokens<S: Source, W: Target>(
     alloc: Global,
     piece: usize,
@@ -75,7 +74,6 @@ fn leave(parsed: Parsed, is_last: bool) {
     }
 }
 
-/// Writes what the task prints of what was parsed.
 fn print_parsed<W: Target>(
     alloc: Global,
     command: Command,

@@ -97,12 +97,11 @@ impl LineIndex {
     }
 
     /// The line and the column of a byte, from those of one before it.
-    fn place_after(&self, from: usize, end: usize, place: (usize, usize)) -> (usize, usize)
+    fn place_after(&self, from: usize, end: usize, mut place: (usize, usize)) -> (usize, usize)
         requires { (from ≤ end) × (end ≤ self.now.length) }
         ensures { (bytes : List ℕ) → IndexHasRead self.now bytes → place.0 ≡ line_at bytes from → place.1 ≡ column_at bytes from
             → (result.0 ≡ line_at bytes end) × (result.1 ≡ column_at bytes end) }
     {
-        let mut place = place;
         for index in from..end {
             let byte = byte_at(&self.kinds, index);
             place = next_place(place, byte, self.is_before_lf(index));
@@ -110,7 +109,6 @@ impl LineIndex {
         place
     }
 
-    /// Whether LF is the byte after the one at this place.
     fn is_before_lf(&self, index: usize) -> bool
         requires { index < self.now.length }
         ensures { (bytes : List ℕ) → IndexHasRead self.now bytes → result ≡ (slice_index_or bytes (1 + index) 0 == 10) }
@@ -141,7 +139,6 @@ fn grow<T: Copy>(items: &mut Vec<T>, length: usize, value: T) -> Result<(), Allo
     items.resize(length, value)
 }
 
-/// The kind of a byte.
 fn kind_of(byte: u8) -> u8
     ensures { result ≡ kind_of byte }
 {
@@ -153,7 +150,6 @@ fn kind_of(byte: u8) -> u8
     }
 }
 
-/// A byte of the kind at a place.
 fn byte_at(kinds: &[u8], at: usize) -> u8
     ensures { (byte : ℕ) → kind_at kinds.now at ≡ kind_of byte → AreAlikeBytes result byte }
 {

@@ -22,7 +22,6 @@ pub(crate) struct Draft {
 }
 
 impl Draft {
-    /// No line yet.
     pub fn new(alloc: Global) -> Draft
         ensures { (lines : List Line) → drafted result lines ≡ flat_map line_text lines }
     {
@@ -32,7 +31,6 @@ impl Draft {
         }
     }
 
-    /// Ends the line of characters that is open, if there is one.
     fn end_characters(&mut self) -> Result<(), AllocError>
         ensures { OnOk result (AddsText self.old self.new (end_of_characters self.old.in_characters) false) }
     {
@@ -54,7 +52,6 @@ impl Draft {
         Ok(())
     }
 
-    /// Writes a character of text.
     #[inline]
     fn push_text(&mut self, ch: char, at: u64) -> Result<(), AllocError>
         ensures { OnOk result (Drafts self.old (Char ch at) self.new) }
@@ -74,7 +71,7 @@ impl Draft {
         push_line(&mut self.text, token, names)
     }
 
-    /// All lines.
+    #[tactic(auto, using(crate::proofs::Drafting::ended))]
     pub fn into_text(mut self) -> Result<String, Refusal>
         ensures { MatchResult result (λ text. string_bytes text ≡ drafted self []) (λ e. e ≡ Memory) }
     {

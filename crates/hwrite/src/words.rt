@@ -2,10 +2,9 @@
 
 ghost use Rattle.std.specs.Prelude.{◌≡◌, ◌⊎◌, ◌++◌, ◌<◌, ℕ, [], codes, decimal, encode_utf8, if◌then◌else◌, map, OnOk};
 ghost use Rattle.std.specs.List.{flat_map, list_all};
-ghost use Rattle.std.specs.String.{string_bytes};
 ghost use Rattle.hmarkup.specs.DoctypeWalk.{optional_text as text_if_any};
-ghost use Rattle.hwrite.specs.Quoted.{is_unescaped};
-ghost use Rattle.hwrite.specs.Vocabulary.{doctype_token, Start, draft_attribute, attribute_words, escaped_byte, quote_escaped, quoted, quoted_or_none, line_of, line_text, draft_table, text_of, tok_of};
+ghost use Rattle.hwrite.specs.Quoted.{Adds, is_unescaped};
+ghost use Rattle.hwrite.specs.Vocabulary.{doctype_token, draft_attribute, attribute_words, escaped_byte, quote_escaped, quoted, quoted_or_none, line_of, line_text, draft_table, text_of, tok_of};
 
 use hmarkup::Doctype;
 use htoken::Token;
@@ -15,18 +14,15 @@ use std::alloc::AllocError;
 
 /// Writes the place at which a line begins, and the words after it.
 pub fn begin_line(text: &mut String, at: u64, words: &str) -> Result<(), AllocError>
-    ensures { OnOk result
-        (string_bytes text.new ≡ string_bytes text.old ++ decimal at ++ codes " " ++ words.now) }
+    ensures { OnOk result (Adds text.old text.new (decimal at ++ codes " " ++ words.now)) }
 {
     text.push_str(Buffer::new().format(at))?;
     text.push(' ')?;
     text.push_str(words)
 }
 
-/// Writes a text between quotes, or `-` if there is none.
 fn push_optional(text: &mut String, source: &Option<String>) -> Result<(), AllocError>
-    ensures { OnOk result
-        (string_bytes text.new ≡ string_bytes text.old ++ quoted_or_none (text_if_any source.now)) }
+    ensures { OnOk result (Adds text.old text.new (quoted_or_none (text_if_any source.now))) }
 {
     match source {
         Some(source) => push_quoted(text, source),
@@ -36,8 +32,7 @@ fn push_optional(text: &mut String, source: &Option<String>) -> Result<(), Alloc
 
 /// Ends a line, with these words if they are to be there.
 fn end_line(text: &mut String, words: &str, has_words: bool) -> Result<(), AllocError>
-    ensures { OnOk result (string_bytes text.new
-        ≡ string_bytes text.old ++ (if has_words then words.now else []) ++ codes "\n") }
+    ensures { OnOk result (Adds text.old text.new ((if has_words then words.now else []) ++ codes "\n")) }
 {
     if has_words {
         text.push_str(words)?;
@@ -45,10 +40,8 @@ fn end_line(text: &mut String, words: &str, has_words: bool) -> Result<(), Alloc
     text.push('\n')
 }
 
-/// Writes the line of a doctype.
 fn push_doctype(text: &mut String, doctype: &Doctype, at: u64) -> Result<(), AllocError>
-    ensures { OnOk result (string_bytes text.new
-        ≡ string_bytes text.old ++ line_text (line_of (doctype_token doctype.now at))) }
+    ensures { OnOk result (Adds text.old text.new (line_text (line_of (doctype_token doctype.now at)))) }
 {
     begin_line(text, at, "doctype ")?;
     push_optional(text, &doctype.name)?;
@@ -59,24 +52,18 @@ fn push_doctype(text: &mut String, doctype: &Doctype, at: u64) -> Result<(), All
     end_line(text, " quirks", doctype.forced)
 }
 
-/// The text of a name of this table.
 fn name_text<'n>(names: Option<&'n Names>, name: NameId) -> &'n str
     ensures { result.now ≡ text_of (draft_table names.entry) name }
 {
-    match names {
-        Some(names) => names.text(name),
-        None => "",
-    }
+    names.map_or("", |names| names.text(name))
 }
 
-/// Writes the attributes of a start tag.
 fn push_attributes(
     text: &mut String,
     attrs: &[Attr],
     names: Option<&Names>,
 ) -> Result<(), AllocError>
-    ensures { OnOk result (string_bytes text.new
-        ≡ string_bytes text.old ++ flat_map attribute_words (map (draft_attribute (draft_table names.entry)) attrs.now)) }
+    ensures { OnOk result (Adds text.old text.new (flat_map attribute_words (map (draft_attribute (draft_table names.entry)) attrs.now))) }
 {
     for attr in attrs {
         text.push(' ')?;
@@ -87,28 +74,8 @@ fn push_attributes(
     Ok(())
 }
 
-/// Writes the line of a start tag.
-fn push_start_tag(
-    text: &mut String,
-    name: NameId,
-    attrs: &[Attr],
-    closing: bool,
-    at: u64,
-    names: Option<&Names>,
-) -> Result<(), AllocError>
-    ensures { OnOk result (string_bytes text.new ≡ string_bytes text.old
-        ++ line_text (line_of (Start (text_of (draft_table names.entry) name) (map (draft_attribute (draft_table names.entry)) attrs.now) closing at))) }
-{
-    begin_line(text, at, "start ")?;
-    push_quoted(text, name_text(names, name))?;
-    push_attributes(text, attrs, names)?;
-    end_line(text, " /", closing)
-}
-
-/// Writes a line of words and a text between quotes.
 fn push_quoted_line(text: &mut String, at: u64, words: &str, source: &str) -> Result<(), AllocError>
-    ensures { OnOk result (string_bytes text.new
-        ≡ string_bytes text.old ++ decimal at ++ codes " " ++ words.now ++ quoted source.now ++ codes "\n") }
+    ensures { OnOk result (Adds text.old text.new (decimal at ++ codes " " ++ words.now ++ quoted source.now ++ codes "\n")) }
 {
     begin_line(text, at, words)?;
     push_quoted(text, source)?;
@@ -118,8 +85,7 @@ fn push_quoted_line(text: &mut String, at: u64, words: &str, source: &str) -> Re
 /// Writes the line of a token that is no character, with the table of its names if it is a tag.
 pub fn push_line(text: &mut String, token: &Token, names: Option<&Names>) -> Result<(), AllocError>
     requires { (ch at : ℕ) → token.now ≡ Token.Char ch at → ⊥ }
-    ensures { OnOk result (string_bytes text.new
-        ≡ string_bytes text.old ++ line_text (line_of (tok_of (draft_table names.entry) token.now))) }
+    ensures { OnOk result (Adds text.old text.new (line_text (line_of (tok_of (draft_table names.entry) token.now)))) }
 {
     match token {
         Token::Doctype { doctype, at } => push_doctype(text, doctype, *at),
@@ -128,7 +94,12 @@ pub fn push_line(text: &mut String, token: &Token, names: Option<&Names>) -> Res
             attrs,
             closing,
             at,
-        } => push_start_tag(text, *name, attrs, *closing, *at, names),
+        } => {
+            begin_line(text, *at, "start ")?;
+            push_quoted(text, name_text(names, *name))?;
+            push_attributes(text, attrs, names)?;
+            end_line(text, " /", *closing)
+        }
         Token::End { name, at } => push_quoted_line(text, *at, "end ", name_text(names, *name)),
         Token::Comment { text: comment, at } => push_quoted_line(text, *at, "comment ", comment),
         Token::Eof { at } => begin_line(text, *at, "eof\n"),
@@ -137,28 +108,23 @@ pub fn push_line(text: &mut String, token: &Token, names: Option<&Names>) -> Res
     }
 }
 
-/// Writes a character that is escaped between quotes.
 #[inline(never)]
 fn push_escape(text: &mut String, ch: char) -> Result<(), AllocError>
     requires { (ch < 32) ⊎ (ch ≡ 34) ⊎ (ch ≡ 92) }
-    ensures { OnOk result (string_bytes text.new ≡ string_bytes text.old ++ escaped_byte ch) }
+    ensures { OnOk result (Adds text.old text.new (escaped_byte ch)) }
 {
-    if ch == '"' {
-        text.push_str("\\\"")
-    } else if ch == '\\' {
-        text.push_str("\\\\")
-    } else if ch == '\n' {
-        text.push_str("\\n")
-    } else {
-        write!(text, "\\x{:02x}", ch as u32)
+    match ch {
+        '"' => text.push_str("\\\""),
+        '\\' => text.push_str("\\\\"),
+        '\n' => text.push_str("\\n"),
+        _ => write!(text, "\\x{:02x}", ch as u32),
     }
 }
 
 /// Writes a character as it is between quotes.
 #[inline]
 pub fn push_escaped(text: &mut String, ch: char) -> Result<(), AllocError>
-    ensures { OnOk result
-        (string_bytes text.new ≡ string_bytes text.old ++ quote_escaped (encode_utf8 ch)) }
+    ensures { OnOk result (Adds text.old text.new (quote_escaped (encode_utf8 ch))) }
 {
     if ch >= ' ' && ch != '"' && ch != '\\' {
         text.push(ch)
@@ -167,25 +133,12 @@ pub fn push_escaped(text: &mut String, ch: char) -> Result<(), AllocError>
     }
 }
 
-/// Writes the characters of a text as they are between quotes.
-fn push_each(text: &mut String, source: &str) -> Result<(), AllocError>
-    ensures { OnOk result
-        (string_bytes text.new ≡ string_bytes text.old ++ quote_escaped source.now) }
-{
-    for ch in source.chars() {
-        push_escaped(text, ch)?;
-    }
-    Ok(())
-}
-
-/// Whether a byte is not escaped between quotes.
 fn is_unescaped(byte: u8) -> bool
     ensures { result ≡ is_unescaped byte }
 {
     byte >= b' ' && byte != b'"' && byte != b'\\'
 }
 
-/// Whether none of these bytes is escaped between quotes.
 fn are_unescaped(bytes: &[u8]) -> bool
     ensures { result ≡ list_all is_unescaped bytes.now }
 {
@@ -193,19 +146,21 @@ fn are_unescaped(bytes: &[u8]) -> bool
 }
 
 /// Writes a text as it is between quotes: at once, where nothing in it is escaped.
+#[tactic(auto, using(std::proofs::lemmas::Grind::common_steps))]
 fn push_escaped_text(text: &mut String, source: &str) -> Result<(), AllocError>
-    ensures { OnOk result
-        (string_bytes text.new ≡ string_bytes text.old ++ quote_escaped source.now) }
+    ensures { OnOk result (Adds text.old text.new (quote_escaped source.now)) }
 {
     if are_unescaped(source.as_bytes()) {
         return text.push_str(source);
     }
-    push_each(text, source)
+    for ch in source.chars() {
+        push_escaped(text, ch)?;
+    }
+    Ok(())
 }
 
-/// Writes a text between quotes.
 fn push_quoted(text: &mut String, source: &str) -> Result<(), AllocError>
-    ensures { OnOk result (string_bytes text.new ≡ string_bytes text.old ++ quoted source.now) }
+    ensures { OnOk result (Adds text.old text.new (quoted source.now)) }
 {
     text.push('"')?;
     push_escaped_text(text, source)?;

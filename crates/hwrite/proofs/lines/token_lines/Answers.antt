@@ -3,9 +3,6 @@ use Rattle.std.specs.Global.{Vec}
 use Rattle.hwrite.proofs.Drafting.{next_drafted, tokens_are}
 use Rattle.hwrite.proofs.lines.token_lines.Goals as goal
 
-pub loop-token-init : goal.loop-token-init
-loop-token-init c = c.new-draft.ensures (lines_of (map (tok_of c.args.run.now.names) c.deref-token-items.result.now))
-
 pub loop-token-preserved : goal.loop-token-preserved
 loop-token-preserved c =
     next_drafted c.args.run.now.names c.loop-token.draft c.push.new.self c.deref-token-items.result.now c.loop-token.token-index c.token-item.result c.loop-token-test.true c.token-item.is c.in_ok-push.ensures

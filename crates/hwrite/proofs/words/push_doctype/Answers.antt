@@ -4,9 +4,9 @@ use Rattle.hwrite.proofs.words.push_doctype.Goals as goal
 
 -- the whole line
 whole : (old opened named spaced public_named public_spaced ids all : List ℕ) (name public system : Option (List ℕ)) (forced : Bool) (at : ℕ)
-    → opened ≡ old ++ decimal at ++ codes " " ++ codes "doctype " → named ≡ opened ++ quoted_or_none name → spaced ≡ named ++ codes " "
+    → opened ≡ old ++ (decimal at ++ codes " " ++ codes "doctype ") → named ≡ opened ++ quoted_or_none name → spaced ≡ named ++ codes " "
     → public_named ≡ spaced ++ quoted_or_none public → public_spaced ≡ public_named ++ codes " " → ids ≡ public_spaced ++ quoted_or_none system
-    → all ≡ ids ++ (if forced then codes " quirks" else []) ++ codes "\n" → all ≡ old ++ line_text (line_of (Doctype name public system forced at))
+    → all ≡ ids ++ ((if forced then codes " quirks" else []) ++ codes "\n") → all ≡ old ++ line_text (line_of (Doctype name public system forced at))
 whole old opened named spaced public_named public_spaced ids all name public system forced at o n s p q i e = rw (e, i, q, p, s, n, o) (simp append_assoc)
 
 pub returns : goal.returns

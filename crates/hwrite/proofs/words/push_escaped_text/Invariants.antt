@@ -1,5 +1,5 @@
 use Rattle.hwrite.proofs.Vocabulary.{◌≡◌, ◌++◌, string_bytes, quote_escaped}
-use Rattle.hwrite.proofs.words.push_each.Given as goal
+use Rattle.hwrite.proofs.words.push_escaped_text.Given as goal
 
 -- what is written and what is still to come make up the whole text
 abbrev pub invariant-loop-ch : goal.invariant-loop-ch
