@@ -1,11 +1,11 @@
 -- Each comment at the front of a text begins with what was read of it, and its errors begin with those reported.
-use Rattle.hmarkup.proofs.Names.{◌≡◌, ℕ, ◌≤◌, true, false, eqb, List, [], ◌∷◌, ◌++◌, length, sym, refl, ap, ◌∙◌, codes, arith, append_assoc, append-nil, map-append, false≢true, eqb-true, and_parts, or_left, or_right, encode_utf8, ParseError, Placed, characters, spells, is_front, null_errors, without_null, CommentKind, Comment, Bogus, closes_comment, closes_at_once, closes_bogus, errors_here, comment_errors_after, IsComment, closed_at_once, closed_with_bang, unclosed, IsBogus, closed_bogus, unclosed_bogus, BeginsMarkup, BeginsSpans, IsOpenMarkup, IsOneSpan, Progress, IsInComment, IsInBogus, HasReadOf, IsCommentSpan, backwards}
+use Rattle.hmarkup.proofs.Names.{◌≡◌, ℕ, ◌≤◌, true, false, eqb, List, [], ◌∷◌, ◌++◌, length, sym, refl, ap, ◌∙◌, codes, arith, append_assoc, append-nil, map-append, false≢true, eqb-true, and_parts, or_left, or_right, ParseError, Placed, characters, spells, is_front, null_errors, CommentKind, Comment, Bogus, closes_comment, closes_at_once, closes_bogus, comment_errors_after, IsComment, closed_at_once, closed_with_bang, unclosed, IsBogus, closed_bogus, unclosed_bogus, BeginsSpans, IsOpenMarkup, IsOneSpan, Progress, IsInComment, IsInBogus, HasReadOf, IsCommentSpan, backwards}
 use Rattle.hmarkup.specs.Comment.{closed}
 use Rattle.hmarkup.proofs.Marks.{not_past, spells-characters, first_is, null_errors-append}
-use Rattle.hmarkup.proofs.Fronts.{IsFront, front_of, front_more}
+use Rattle.hmarkup.proofs.Fronts.{IsFront, front_of}
 use Rattle.hmarkup.proofs.Unique.{told_of}
 use Rattle.hmarkup.proofs.Walking.{before-text, errors-append}
-use Rattle.hmarkup.proofs.InBogus.{before-bogus, bogus_kept}
+use Rattle.hmarkup.proofs.InBogus.{before-bogus}
 
 -- a mark that closes a comment right at its start
 once_closed : (dash close more : List Placed) → is_front dash (codes "-") ≡ true → characters close ≡ codes ">" → closes_at_once ((dash ++ close) ++ more) ≡ true
@@ -40,6 +40,10 @@ not_ended_bogus w text errs h rest span d es (closed_bogus inner close t b c dat
     (spells-characters (codes ">") close more c) (some_of close 62 [] more c))
 not_ended_bogus w text errs h rest span d es (unclosed_bogus r b data_is errors_are) more e = r
 
+pub kind_of : (kind : CommentKind) (w : Progress) (text : List Placed) (errs : List ParseError) → HasReadOf kind w text errs → w.kind ≡ kind
+kind_of Comment w text errs h = h.kind_is
+kind_of Bogus w text errs h = h.kind_is
+
 pub open_of : (kind : CommentKind) (w : Progress) (text : List Placed) (errs : List ParseError) → HasReadOf kind w text errs → IsOpenMarkup (IsCommentSpan kind) text
 open_of Comment w text errs h = λ end rest d es s. not_ended w text errs h end rest text d es s [] (sym (append-nil text))
 open_of Bogus w text errs h = λ end rest d es s. not_ended_bogus w text errs h rest text d es s [] (sym (append-nil text))
@@ -55,27 +59,19 @@ bogus_errors rest span d es (closed_bogus inner close t b c data_is errors_are) 
 bogus_errors rest span d es (unclosed_bogus r b data_is errors_are) = errors_are
 
 -- the comment's errors begin with those of the characters read
-begins_with : (text after rest span : List Placed) (errs : List ParseError) (end : ℕ) (d : List ℕ) (es : List ParseError) → errs ≡ comment_errors_after [] text → IsFront text after rest span → IsComment end rest span d es
-    → BeginsMarkup text after rest span errs es
-begins_with text after rest span errs end d es e front s =
-    let told = told_of end rest span d es s in
+begins_comment : (w : Progress) (text : List Placed) (errs : List ParseError) → IsInComment w text errs → BeginsSpans IsComment text errs
+begins_comment w text errs h end after rest span d all s e =
+    let front : IsFront text after rest span = front_of text after rest span e (not_ended w text errs h end rest span d all s) in
+    let told = told_of end rest span d all s in
     record {
       more = front.more;
       later = comment_errors_after (backwards [] text) front.more ++ told.last;
       span_is = front.span_is;
       after_is = front.after_is;
       all_are = told.errors_are ∙ ap (λ (x : List Placed). comment_errors_after [] x ++ told.last) front.span_is ∙ ap (λ (x : List ParseError). x ++ told.last) (errors-append [] text front.more)
-          ∙ append_assoc (comment_errors_after [] text) (comment_errors_after (backwards [] text) front.more) told.last ∙ ap (λ (x : List ParseError). x ++ (comment_errors_after (backwards [] text) front.more ++ told.last)) (sym e);
+          ∙ append_assoc (comment_errors_after [] text) (comment_errors_after (backwards [] text) front.more) told.last
+          ∙ ap (λ (x : List ParseError). x ++ (comment_errors_after (backwards [] text) front.more ++ told.last)) (sym h.errors_are);
     }
-
--- so far, and after one more character
-begins_comment : (w : Progress) (text : List Placed) (errs : List ParseError) → IsInComment w text errs → BeginsSpans IsComment text errs
-begins_comment w text errs h end after rest span d all s e =
-    begins_with text after rest span errs end d all h.errors_are (front_of text after rest span e (not_ended w text errs h end rest span d all s)) s
-
-pub begins_more : (w : Progress) (text : List Placed) (errs now : List ParseError) (p : Placed) → IsInComment w text errs → now ≡ comment_errors_after [] (text ++ p ∷ []) → BeginsSpans IsComment (text ++ p ∷ []) now
-begins_more w text errs now p h n end after rest span d all s e =
-    begins_with (text ++ p ∷ []) after rest span now end d all n (front_more text p after rest span (not_ended w text errs h end rest span d all s) e) s
 
 pub begins_bogus : (w : Progress) (text : List Placed) (errs : List ParseError) → IsInBogus w text errs → BeginsSpans (IsCommentSpan Bogus) text errs
 begins_bogus w text errs h end after rest span d all s e =
@@ -98,11 +94,3 @@ pub begins_whole : {V : Type 0} (Spans : ℕ → List Placed → List Placed →
 begins_whole Spans one text value errs given end after rest span other all s e =
     let same = one end rest after span text other value all errs s (given end after) e in
     record { more = []; later = []; span_is = same.0 ∙ sym (append-nil text); after_is = sym same.1; all_are = same.3 ∙ sym (append-nil errs) }
-
--- a bogus comment, after one more character that does not end it
-pub bogus_more : (w : Progress) (text : List Placed) (errs : List ParseError) (ch at : ℕ) → IsInBogus w text errs → eqb ch 62 ≡ false
-    → BeginsSpans (IsCommentSpan Bogus) (text ++ record { ch = ch; at = at } ∷ []) (errs ++ errors_here false (record { ch = ch; at = at }))
-bogus_more w text errs ch at h other =
-    let then : Progress = record { kind = w.kind; ending = w.ending; opening = w.opening; «data» = w.data ++ encode_utf8 (without_null ch) } in
-    begins_bogus then (text ++ record { ch = ch; at = at } ∷ []) (errs ++ errors_here false (record { ch = ch; at = at }))
-    (bogus_kept w text errs ch at h then h.kind_is other refl)

@@ -1,7 +1,7 @@
 -- Classes of characters that exclude each other, and the errors of characters that are not NUL.
 use Rattle.std.proofs.lemmas.Bool.{cases_eq}
 use Rattle.std.proofs.Common.{inl, inr}
-use Rattle.hmarkup.proofs.Names.{◌≡◌, ℕ, ◌≤◌, true, false, eqb, [], ◌∷◌, sym, refl, subst, arith, eqb-true, nat_tests, to_ascii_lowercase, Placed, is_space, is_greater, is_quote, null_errors}
+use Rattle.hmarkup.proofs.Names.{◌≡◌, ℕ, true, false, eqb, [], ◌∷◌, sym, refl, subst, arith, eqb-true, nat_tests, Placed, is_space, is_greater, is_quote, null_errors}
 
 -- what holds of both quotes
 pub quote_is : (c : ℕ) → is_quote c ≡ true → (P : ℕ → Type 0) → P 34 → P 39 → P c
@@ -16,30 +16,11 @@ quote_not_space c h = quote_is c h (λ n. is_space n ≡ false) refl refl
 pub quote_not_greater : (c : ℕ) → is_quote c ≡ true → is_greater c ≡ false
 quote_not_greater c h = quote_is c h (λ n. is_greater n ≡ false) refl refl
 
-pub quote_not_null : (c : ℕ) → is_quote c ≡ true → eqb c 0 ≡ false
-quote_not_null c h = quote_is c h (λ n. eqb n 0 ≡ false) refl refl
-
 pub greater_not_space : (c : ℕ) → is_greater c ≡ true → is_space c ≡ false
 greater_not_space c h = subst (λ (n : ℕ). is_space n ≡ false) (sym (eqb-true c 62 h)) refl
 
-pub greater_not_null : (c : ℕ) → is_greater c ≡ true → eqb c 0 ≡ false
-greater_not_null c h = subst (λ (n : ℕ). eqb n 0 ≡ false) (sym (eqb-true c 62 h)) refl
-
 pub space_not_null : (c : ℕ) → is_space c ≡ true → eqb c 0 ≡ false
 space_not_null c h = grind (arith, nat_tests)
-
--- letters of a keyword
-pub lower_is_far : (c k : ℕ) → to_ascii_lowercase c ≡ k → 97 ≤ k → 65 ≤ c
-lower_is_far c k h l = grind (arith, nat_tests)
-
-pub far_not_space : (c : ℕ) → 65 ≤ c → is_space c ≡ false
-far_not_space c h = grind (arith, nat_tests)
-
-pub far_not_greater : (c : ℕ) → 65 ≤ c → is_greater c ≡ false
-far_not_greater c h = grind (arith, nat_tests)
-
-pub far_not_null : (c : ℕ) → 65 ≤ c → eqb c 0 ≡ false
-far_not_null c h = grind (arith, nat_tests)
 
 -- no error but NUL's
 pub no_null_error : (p : Placed) → eqb p.ch 0 ≡ false → null_errors (p ∷ []) ≡ []

@@ -1,5 +1,5 @@
 -- What a walk has read, and the characters that close it.
-use Rattle.hmarkup.proofs.Names.{◌≡◌, ◌<◌, ℕ, arith, true, false, eqb, List, [], ◌∷◌, ◌++◌, sym, refl, ap, ◌∙◌, subst, codes, None, append_assoc, ParseError, Placed, characters, is_quote, CommentKind, Comment, Bogus, Letters, DoctypeState, Ending, Plain, Dashes, errors_here, IsComment, Progress, HasReadOf, IsInComment, IsCommentSpan, is_whole, Found, IsDoctype, next_letter, step, Reading, FitsState, HasReadDoctype, next_progress, next_ending}
+use Rattle.hmarkup.proofs.Names.{◌≡◌, ◌<◌, ℕ, arith, true, false, eqb, List, [], ◌∷◌, ◌++◌, sym, refl, ◌∙◌, subst, transport, codes, None, append_assoc, ParseError, Placed, characters, is_quote, CommentKind, Comment, Bogus, Letters, DoctypeState, Ending, Plain, Dashes, IsComment, Progress, HasReadOf, IsInComment, IsCommentSpan, Found, IsDoctype, next_letter, step, Reading, FitsState, HasReadDoctype, next_ending, errors_here, is_whole, next_progress}
 use Rattle.std.proofs.lemmas.Bool.{ne_eqb}
 use Rattle.hmarkup.specs.declared.doctype_state.DoctypeState.TheVariants as phase
 use Rattle.hmarkup.specs.CommentWalk.{closing_mark}
@@ -17,44 +17,38 @@ two_dashes Plain = refl
 two_dashes _ = refl
 
 -- `-->` after a comment's text
-module _ (w : Progress) (text : List Placed) (errs : List ParseError) (h : IsInComment w text errs) (a b c : Placed) (a_is : a.ch ≡ 45) (b_is : b.ch ≡ 45) (c_is : c.ch ≡ 62) where
-  abbrev mid : Progress
-  mid = next_progress w a.ch
+module _ (w : Progress) (text : List Placed) (errs : List ParseError) (h : IsInComment w text errs) (x y z : ℕ) where
+  abbrev a : Placed
+  a = record { ch = 45; at = x }
 
-  abbrev last : Progress
-  last = next_progress mid b.ch
+  abbrev b : Placed
+  b = record { ch = 45; at = y }
 
-  abbrev errors_a : List ParseError
-  errors_a = errs ++ errors_here (is_whole w.opening) a
+  abbrev c : Placed
+  c = record { ch = 62; at = z }
 
-  abbrev errors_b : List ParseError
-  errors_b = errors_a ++ errors_here (is_whole mid.opening) b
-
-  after_a : IsInComment mid (text ++ a ∷ []) errors_a
-  after_a = kept_other w text errs a.ch a.at (is_whole w.opening) refl h (ap (λ (n : ℕ). eqb n 62) a_is)
-
-  after_b : IsInComment last ((text ++ a ∷ []) ++ b ∷ []) errors_b
-  after_b = kept_other mid (text ++ a ∷ []) errors_a b.ch b.at (is_whole mid.opening) refl after_a (ap (λ (n : ℕ). eqb n 62) b_is)
-
-  has_dashes : last.ending ≡ Dashes
-  has_dashes = (λ i. next_ending (next_ending w.ending (a_is i)) (b_is i)) ∙ two_dashes w.ending
-
-  closed_by_dashes : ClosedBy IsComment text (a ∷ b ∷ c ∷ [])
-  closed_by_dashes = record {
-    value = last.data;
-    errors = errors_b ++ errors_here (is_whole last.opening) c;
-    is_span = λ end rest.
-        subst (λ (x : List Placed). IsComment end rest x last.data (errors_b ++ errors_here (is_whole last.opening) c)) (append_assoc (text ++ a ∷ []) (b ∷ []) (c ∷ []) ∙ append_assoc text (a ∷ []) (b ∷ c ∷ []))
-        (closed_now last ((text ++ a ∷ []) ++ b ∷ []) errors_b c.ch c.at (is_whole last.opening) refl after_b c_is has_dashes end rest);
-  }
+  closed_by_dashes : ClosedBy IsComment text (record { ch = 45; at = x } ∷ record { ch = 45; at = y } ∷ record { ch = 62; at = z } ∷ [])
+  closed_by_dashes =
+      let mid : Progress = next_progress w 45 in
+      let last : Progress = next_progress mid 45 in
+      let raised : List ParseError = (errs ++ errors_here (is_whole w.opening) a) ++ errors_here (is_whole mid.opening) b in
+      let h_b : IsInComment last ((text ++ a ∷ []) ++ b ∷ []) raised = kept_other mid (text ++ a ∷ []) _ b (kept_other w text errs a h refl) refl in
+      record {
+        value = last.data;
+        errors = raised ++ [];
+        is_span = λ end rest.
+            subst (λ (t : List Placed). IsComment end rest t last.data (raised ++ [])) (append_assoc (text ++ a ∷ []) (b ∷ []) (c ∷ []) ∙ append_assoc text (a ∷ []) (b ∷ c ∷ []))
+            (closed_now last ((text ++ a ∷ []) ++ b ∷ []) raised z h_b (two_dashes w.ending) end rest);
+      }
 
 pub closed_span : (kind : CommentKind) (w : Progress) (text closing : List Placed) (errs : List ParseError) → HasReadOf kind w text errs → characters closing ≡ closing_mark kind → ClosedBy (IsCommentSpan kind) text closing
 closed_span Comment w text (a ∷ b ∷ c ∷ []) errs h is =
-    let a_is : a.ch ≡ 45 = cc in
-    let b_is : b.ch ≡ 45 = cc in
-    let c_is : c.ch ≡ 62 = cc in
-    closed_by_dashes w text errs h a b c a_is b_is c_is
-closed_span Bogus w text (p ∷ []) errs h is = record { value = _; errors = _; is_span = bogus_closed w text errs p.ch p.at h (first_is p [] 62 [] is) }
+    let a_is : 45 ≡ a.ch = cc in
+    let b_is : 45 ≡ b.ch = cc in
+    let c_is : 62 ≡ c.ch = cc in
+    transport (λ i. ClosedBy IsComment text (record { ch = a_is i; at = a.at } ∷ record { ch = b_is i; at = b.at } ∷ record { ch = c_is i; at = c.at } ∷ [])) (closed_by_dashes w text errs h a.at b.at c.at)
+closed_span Bogus w text (p ∷ []) errs h is =
+    subst (λ (c : ℕ). ClosedBy (IsCommentSpan Bogus) text (record { ch = c; at = p.at } ∷ [])) (sym (first_is p [] 62 [] is)) (record { value = _; errors = _; is_span = bogus_closed w text errs p.at h })
 closed_span _ w text _ errs h is = absurd cc
 
 -- `>` ends a doctype in each phase
@@ -69,14 +63,11 @@ ends_doctype (phase.Keyword letters first) known at fits = simp (no_letter lette
 ends_doctype (phase.Quoted which mark) known at fits = simp (no_quote mark fits.0)
 ends_doctype _ known at fits = refl
 
-closed_by_greater : (w : Reading) (text : List Placed) (errs : List ParseError) (ch at : ℕ) → ch ≡ 62 → HasReadDoctype w text errs → (step w.phase (record { ch = ch; at = at })).next ≡ None
-closed_by_greater w text errs ch at is h = subst (λ (c : ℕ). (step w.phase (record { ch = c; at = at })).next ≡ None) (sym is) (ends_doctype w.phase w.found at h.fits)
-
 pub closed_doctype : (w : Reading) (text closing : List Placed) (errs : List ParseError) → HasReadDoctype w text errs → characters closing ≡ codes ">" → ClosedBy IsDoctype text closing
 closed_doctype w text [] errs h is = absurd cc
 closed_doctype w text (p ∷ []) errs h is = record {
   value = _;
   errors = _;
-  is_span = read_whole w text errs p h (closed_by_greater w text errs p.ch p.at (first_is p [] 62 [] is) h);
+  is_span = read_whole w text errs p h (subst (λ (c : ℕ). (step w.phase (record { ch = c; at = p.at })).next ≡ None) (sym (first_is p [] 62 [] is)) (ends_doctype w.phase w.found p.at h.fits));
 }
 closed_doctype w text (p ∷ q ∷ more) errs h is = absurd cc

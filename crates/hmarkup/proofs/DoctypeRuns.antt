@@ -1,7 +1,5 @@
 -- A run of characters that are only data in a doctype.
-use Rattle.hmarkup.proofs.Names.{◌≡◌, ℕ, ◌+◌, ◌<◌, true, false, eqb, List, [], ◌∷◌, ◌++◌, sym, ap, ◌∙◌, refl, subst, transport, Some, append_assoc, append-nil, length, arith, encode_utf8, encode_utf8_all, list_all, IsUtf8, chars, and_parts, false≢true, nat_tests, to_ascii_lowercase, ParseError, Placed, is_space, is_greater, placed, Identifier, DoctypeState, Found, step, step_errors, found_by, Reading, FitsState, HasReadDoctype}
-use Rattle.std.specs.Char.{len_utf8}
-use Rattle.std.proofs.lemmas.List.Folds.{list_all-append}
+use Rattle.hmarkup.proofs.Names.{◌≡◌, ℕ, ◌+◌, ◌<◌, true, false, eqb, List, [], ◌∷◌, ◌++◌, sym, ap, ◌∙◌, refl, subst, transport, Some, append_assoc, append-nil, length, arith, encode_utf8, encode_utf8_all, list_all, IsUtf8, chars, and_parts, false≢true, nat_tests, to_ascii_lowercase, ParseError, Placed, is_space, is_greater, placed, Identifier, DoctypeState, Found, step, step_errors, found_by, Reading, FitsState, HasReadDoctype, len_utf8, list_all-append}
 use Rattle.std.proofs.lemmas.Str.{encode_ascii, encodes-chars, len_utf8_bounds, length-encode}
 use Rattle.hmarkup.specs.declared.doctype_state.DoctypeState.TheVariants as phase
 use Rattle.hmarkup.specs.DoctypeSteps.{with_run}

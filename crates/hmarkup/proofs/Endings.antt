@@ -1,19 +1,15 @@
 -- How a doctype ends, and skipped rests, a character at a time.
-use Rattle.hmarkup.proofs.Names.{◌≡◌, ℕ, Bool, true, false, not, ◌||◌, eqb, List, [], ◌∷◌, ◌++◌, sym, refl, ap, ◌∙◌, subst, codes, false≢true, eqb-true, and_from, and_parts, not-true, or_from, or_parts, ParseError, ErrorCode, EofInDoctype, Placed, characters, begins, is_empty, all, is_space, is_greater, is_greater_or_end, error, null_errors, Found, force, IsEnd, closed, cut_off, IsSkipped}
+use Rattle.hmarkup.proofs.Names.{◌≡◌, ℕ, Bool, true, false, not, ◌||◌, eqb, List, [], ◌∷◌, ◌++◌, sym, refl, ap, ◌∙◌, subst, codes, false≢true, eqb-true, and_from, and_parts, not-true, or_from, or_parts, ParseError, ErrorCode, EofInDoctype, Placed, characters, begins, is_empty, all, is_space, is_greater, is_greater_or_end, error, null_errors, Found, force, IsEnd, closed, cut_off, IsSkipped, Skips}
 use Rattle.std.proofs.lemmas.Bool.{not_from_false}
-use Rattle.hmarkup.specs.Doctype.{Skips}
 use Rattle.hmarkup.proofs.Marks.{null_errors-append}
 use Rattle.hmarkup.proofs.Characters.{greater_not_space}
 -- a lemma of the standard library, under the name by which the crates above cite it
 pub use Rattle.std.proofs.lemmas.Bool.{not-true as not_true}
 
 -- a text that is one character
-pub only : (p : Placed) (ps : List Placed) (c : ℕ) → characters (p ∷ ps) ≡ c ∷ [] → (p.ch ≡ c) × (ps ≡ [])
-only p [] c h = (cc, refl)
-only p (q ∷ qs) c h = absurd cc
-
 pub only_greater : (p : Placed) (ps : List Placed) → characters (p ∷ ps) ≡ codes ">" → (is_greater p.ch ≡ true) × (ps ≡ [])
-only_greater p ps h = let k = only p ps 62 h in (subst (λ (n : ℕ). eqb n 62 ≡ true) (sym k.0) refl, k.1)
+only_greater p [] h = let is : p.ch ≡ 62 = cc in (ap (λ (n : ℕ). eqb n 62) is, refl)
+only_greater p (q ∷ qs) h = absurd cc
 
 pub greater_spells : (p : Placed) → is_greater p.ch ≡ true → characters (p ∷ []) ≡ codes ">"
 greater_spells p h = ap (λ (n : ℕ). n ∷ []) (eqb-true p.ch 62 h)

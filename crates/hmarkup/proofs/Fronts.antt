@@ -1,5 +1,5 @@
 -- One text at the front of two.
-use Rattle.hmarkup.proofs.Names.{◌≡◌, ℕ, List, [], ◌∷◌, ◌++◌, length, take, sym, refl, ap, ◌∙◌, append_assoc, append-nil, append_cancel_left, Placed}
+use Rattle.hmarkup.proofs.Names.{◌≡◌, ℕ, List, [], ◌∷◌, ◌++◌, length, take, sym, refl, ap, ◌∙◌, append_cancel_left, Placed}
 use Rattle.std.proofs.Math.Seq.{take-append_seam}
 use Rattle.names.proofs.Words.{heads, tails}
 
@@ -25,19 +25,6 @@ front_of (t ∷ ts) after rest (s ∷ ss) e last =
     front_cons t s ts after rest ss (heads s t (ss ++ rest) (ts ++ after) e)
     (front_of ts after rest ss (tails s t (ss ++ rest) (ts ++ after) e)
     (λ (more : List Placed) (h : ts ≡ ss ++ more). last more (cons_are t s ts (ss ++ more) (sym (heads s t (ss ++ rest) (ts ++ after) e)) h)))
-
--- it begins with one more character, where it doesn't end with the text
-pub front_more : (text : List Placed) (p : Placed) (after rest span : List Placed) → ((more : List Placed) → text ≡ span ++ more → rest ≡ []) → span ++ rest ≡ (text ++ p ∷ []) ++ after → IsFront (text ++ p ∷ []) after rest span
-front_more text p after rest span last e = past (front_of text (p ∷ after) rest span (e ∙ append_assoc text (p ∷ []) after) last)
-  where
-    past : IsFront text (p ∷ after) rest span → IsFront (text ++ p ∷ []) after rest span
-    past front = longer front.more front.span_is front.after_is
-      where
-        longer : (more : List Placed) → span ≡ text ++ more → p ∷ after ≡ more ++ rest → IsFront (text ++ p ∷ []) after rest span
-        longer [] s a = let none : rest ≡ [] = last [] (sym (append-nil text) ∙ sym s ∙ sym (append-nil span)) in absurd cc
-        longer (q ∷ qs) s a =
-            let same : q ≡ p = cc in
-            record { more = qs; span_is = s ∙ ap (λ (x : Placed). text ++ (x ∷ qs)) same ∙ sym (append_assoc text (p ∷ []) qs); after_is = cc }
 
 -- two texts of one length
 pub same_front : (xs ys zs ws : List Placed) → xs ++ ys ≡ zs ++ ws → length xs ≡ length zs → (xs ≡ zs) × (ys ≡ ws)

@@ -9,7 +9,7 @@ use Rattle.hmarkup.specs.Doctype.{is_keyword, keyword, FollowsKeyword}
 use Rattle.hmarkup.specs.DoctypeSteps.{identifier_begun, ends_doctype}
 use Rattle.hmarkup.specs.DoctypeWalk.{letters_left}
 use Rattle.hmarkup.proofs.Marks.{eqb_self}
-use Rattle.hmarkup.proofs.Characters.{lower_is_far, far_not_space, far_not_greater, far_not_null, no_null_error}
+use Rattle.hmarkup.proofs.Characters.{no_null_error}
 use Rattle.hmarkup.proofs.Spaces.{past_space, at_once, with_none, any_space, with_space}
 use Rattle.hmarkup.proofs.Endings.{end_at, end_not_space, skipped_ends, skipped_goes, skipped_none, skipped_more, skips_at, skips_from, skips_not_space}
 use Rattle.hmarkup.proofs.Stepping.{ends_by, skips_by, ended, Goes, Stepped, passed, plain_errors, space_error, greater_error}
@@ -58,13 +58,13 @@ goes_on_as letters = by (nat_lt letters.read 5) refl
 
 -- a letter of a keyword in either case
 pub letter_error : (p : Placed) (c : ℕ) → to_ascii_lowercase p.ch ≡ c → 97 ≤ c → null_errors (p ∷ []) ≡ []
-letter_error p c h l = no_null_error p (far_not_null p.ch (lower_is_far p.ch c h l))
+letter_error p c h l = let some : eqb p.ch 0 ≡ false = grind (arith, nat_tests) in no_null_error p some
 
 pub letter_not_greater : (p : Placed) (c : ℕ) → to_ascii_lowercase p.ch ≡ c → 97 ≤ c → is_greater p.ch ≡ false
-letter_not_greater p c h l = far_not_greater p.ch (lower_is_far p.ch c h l)
+letter_not_greater p c h l = grind (arith, nat_tests)
 
 pub letter_not_space : (p : Placed) (c : ℕ) → to_ascii_lowercase p.ch ≡ c → 97 ≤ c → is_space p.ch ≡ false
-letter_not_space p c h l = far_not_space p.ch (lower_is_far p.ch c h l)
+letter_not_space p c h l = grind (arith, nat_tests)
 
 -- the first letter of a keyword, if it is one
 abbrev pub first_by : Bool → Bool → Option Letters

@@ -8,8 +8,7 @@ pub mod InBogus
 pub mod Unique
 pub mod OneSpan
 pub mod Begins
-pub mod Ending
-pub mod OneKind
+pub mod Outcomes
 pub mod Characters
 pub mod Parts
 pub mod Spaces
@@ -21,7 +20,6 @@ pub mod Naming
 pub mod Quoting
 pub mod Phases
 pub mod Reading
-pub mod Outcomes
 pub mod Lines
 pub mod SomeSpan
 pub mod Closing

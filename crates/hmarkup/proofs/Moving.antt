@@ -1,7 +1,5 @@
 -- The last characters of a comment that has not ended, when one more comes.
-use Rattle.hmarkup.proofs.Names.{ap, ◌≡◌, ℕ, Bool, true, false, eqb, List, [], ◌∷◌, ◌++◌, sym, refl, ◌∙◌, subst, append-nil, codes, arith, ◌≤◌, length, false≢true, eqb-true, false_from_ne_true, encode, Placed, characters, is_front, before, Avoids, text_bytes, Ending, Plain, Dash, Dashes, Bang, closes_comment, is_ending, holds_nothing, next_ending, decided}
-use Rattle.std.proofs.Common.{◌⊎◌}
-use mathlib.Core.Logic.{inl, inr}
+use Rattle.hmarkup.proofs.Names.{◌≡◌, ℕ, Bool, true, false, eqb, List, [], ◌∷◌, ◌++◌, sym, refl, ◌∙◌, subst, append-nil, codes, arith, ◌≤◌, length, false≢true, eqb-true, false_from_ne_true, encode, Placed, characters, is_front, before, Avoids, text_bytes, Ending, Plain, Dash, Dashes, Bang, closes_comment, is_ending, holds_nothing, next_ending, decided}
 use Rattle.hmarkup.specs.CommentWalk.{IsHeldEnding, holds_dash, holds_dashes, holds_bang}
 use Rattle.hmarkup.proofs.Marks.{front-less, front-longer, spells-more}
 
@@ -84,15 +82,14 @@ pub moves : (ending : Ending) (held : List Placed) (ch at : ℕ) → (closes end
 moves ending held ch at n62 h = on_tests ending held ch at n62 h (eqb ch 45) (eqb ch 33) refl refl
 
 -- what is held at the closing character, and at the end
-pub dashes_close : (ending : Ending) (held : List Placed) (ch at : ℕ) → ch ≡ 62 → IsHeldEnding ending held → ending ≡ Dashes
-    → (before closes_comment (held ++ record { ch = ch; at = at } ∷ []) ≡ []) × (characters (held ++ record { ch = ch; at = at } ∷ []) ≡ codes "-->")
-dashes_close ending held ch at is (holds_dashes a b) e = rw is (refl, refl)
-dashes_close ending held ch at is _ e = absurd cc
+pub dashes_close : (ending : Ending) (held : List Placed) (at : ℕ) → IsHeldEnding ending held → ending ≡ Dashes
+    → (before closes_comment (held ++ record { ch = 62; at = at } ∷ []) ≡ []) × (characters (held ++ record { ch = 62; at = at } ∷ []) ≡ codes "-->")
+dashes_close ending held at (holds_dashes a b) e = (refl, refl)
+dashes_close ending held at _ e = absurd cc
 
-pub bang_closes : (ending : Ending) (held : List Placed) (ch at : ℕ) → ch ≡ 62 → IsHeldEnding ending held → ending ≡ Bang
-    → (before closes_comment (held ++ record { ch = ch; at = at } ∷ []) ≡ []) × (characters held ≡ codes "--!")
-bang_closes ending held ch at is (holds_bang a b d) e = rw is (refl, refl)
-bang_closes ending held ch at is _ e = absurd cc
+pub bang_closes : (ending : Ending) (held : List Placed) (at : ℕ) → IsHeldEnding ending held → ending ≡ Bang → (before closes_comment (held ++ record { ch = 62; at = at } ∷ []) ≡ []) × (characters held ≡ codes "--!")
+bang_closes ending held at (holds_bang a b d) e = (refl, refl)
+bang_closes ending held at _ e = absurd cc
 
 pub dash_held : (ending : Ending) (held : List Placed) → IsHeldEnding ending held → closes ending ≡ false
     → is_front held (codes "-") ≡ true
@@ -108,7 +105,3 @@ pub held_long : (ending : Ending) (held : List Placed) → IsHeldEnding ending h
 held_long ending held (holds_dashes a b) e = omega arith
 held_long ending held (holds_bang a b d) e = omega arith
 held_long ending held _ e = absurd cc
-
-pub closes_not : (ending : Ending) → (ending ≡ Plain) ⊎ (ending ≡ Dash) → closes ending ≡ false
-closes_not ending (inl e) = ap closes e
-closes_not ending (inr e) = ap closes e

@@ -1,11 +1,11 @@
 -- The names of other crates and of specs/ that several proofs cite, in one place.
 pub use Rattle.hmarkup.specs.Comment.{closes_comment, closes_at_once, closes_bogus, errors_here, comment_errors_after, IsComment, closed_at_once, closed_with_bang, unclosed, IsBogus, closed_bogus, unclosed_bogus, is_ending}
 pub use Rattle.hmarkup.specs.CommentWalk.{Progress, IsInComment, IsInBogus, HasReadOf, IsCommentSpan, backwards, is_whole, comment_begun, holds_nothing}
-pub use Rattle.hmarkup.specs.Doctype.{closed, Found, IsDoctype, force, IsEnd, cut_off, IsSkipped, AfterName, name_ends, name_skips, names_identifier, FollowsName, with_name, AfterSpace, AfterOpening, begins_name, nameless, unfinished, identified, IsInside, quoted, abrupt, AfterSystemIdentifier, system_ends, system_skips, AfterPublicIdentifier, public_ends, public_skips, second, Follows, AfterKeyword, identifier, missing, keyword_skips, keyword_cut_off, Stands}
-pub use Rattle.hmarkup.specs.DoctypeSteps.{next_letter, step, after_name, begins_keyword, first_letter, goes_on_with, in_keyword, letters_after, step_errors, found_by, before_name, in_name, fault_errors, end_fault, found_at_end, after_keyword, follows, in_quotes, after_public, after_system, in_skipped}
+pub use Rattle.hmarkup.specs.Doctype.{closed, Found, IsDoctype, force, IsEnd, cut_off, IsSkipped, AfterName, name_ends, name_skips, names_identifier, FollowsName, with_name, AfterSpace, AfterOpening, begins_name, nameless, unfinished, identified, IsInside, quoted, abrupt, AfterSystemIdentifier, system_ends, system_skips, AfterPublicIdentifier, public_ends, public_skips, second, Follows, AfterKeyword, identifier, missing, keyword_skips, keyword_cut_off, Stands, Skips}
+pub use Rattle.hmarkup.specs.DoctypeSteps.{next_letter, step, after_name, begins_keyword, first_letter, goes_on_with, in_keyword, letters_after, step_errors, found_by, before_name, in_name, fault_errors, end_fault, found_at_end, after_keyword, follows, in_quotes, after_public, after_system, in_skipped, ends_doctype, skips}
 pub use Rattle.hmarkup.specs.DoctypeWalk.{Reading, FitsState, HasReadDoctype, IsInKeyword, whole, fails, identifier_of, DoctypeGoesOn}
 pub use Rattle.hmarkup.specs.Quirks.{lines, AreQuirkLines}
-pub use Rattle.hmarkup.specs.Steps.{next_progress, next_ending, decided}
+pub use Rattle.hmarkup.specs.Steps.{next_progress, next_ending, decided, with_char}
 pub use Rattle.hmarkup.specs.Walk.{BeginsMarkup, BeginsSpans, IsOpenMarkup, IsOneSpan, EndsMarkup, TakesMarkup, ran_out, sink_refused, goes_on, ended, run_ran_out, run_goes_on}
 pub use Rattle.hmarkup.specs.declared.comment.CommentKind.{CommentKind}
 pub use Rattle.hmarkup.specs.declared.comment.CommentKind.TheVariants.{Comment, Bogus}
@@ -28,11 +28,12 @@ pub use Rattle.std.proofs.Common.{◌≡◌, ℕ, ◌≤◌, true, false, ◌&&�
 pub use Rattle.std.proofs.Math.Path.{transport}
 pub use Rattle.std.proofs.lemmas.Bool.{false≢true, eqb-true, and_parts, or_left, or_right, and_from, not-true, or_from, or_parts, and_right, false_from_ne_true, eqb-false}
 pub use Rattle.std.proofs.lemmas.Bool.Decides.{nat_tests}
-pub use Rattle.std.proofs.lemmas.List.{map-append, append_cancel_left, drop_all, drop_at}
+pub use Rattle.std.proofs.lemmas.List.{map-append, append_cancel_left, drop_all, drop_at, length-map, nil_from_length}
 pub use Rattle.std.proofs.lemmas.Result.{err_from_is_err_and}
-pub use Rattle.std.proofs.lemmas.Str.{encodes-append}
-pub use Rattle.std.specs.Char.{encode_utf8, to_ascii_lowercase}
+pub use Rattle.std.proofs.lemmas.Str.{encodes-append, encode_ascii, encodes-chars, chars-nil}
+pub use Rattle.std.specs.Char.{encode_utf8, to_ascii_lowercase, len_utf8}
 pub use Rattle.std.specs.List.{list_all}
-pub use Rattle.std.specs.Prelude.{encode_utf8_all, is_some}
+pub use Rattle.std.specs.Prelude.{encode_utf8_all, is_some, option_map}
 pub use Rattle.std.specs.Str.{IsUtf8, chars}
 unfoldable pub use lib.Utf8.{encode}
+pub use Rattle.std.proofs.lemmas.List.Folds.{list_all-append}

@@ -1,8 +1,7 @@
 -- Each character of a doctype, and its end, in each phase.
-use Rattle.hmarkup.proofs.Names.{if◌then◌else◌, is_greater, length-append, is_space, Step, length, ◌≡◌, ◌<◌, ℕ, arith, eqb, Bool, true, false, List, [], ◌∷◌, ◌++◌, sym, refl, ap, ◌∙◌, subst, Option, Some, None, is_some, to_ascii_lowercase, false≢true, ParseError, EofInDoctype, InvalidCharacterSequenceAfterDoctypeName, Placed, spells_in_any_case, is_quote, error, null_errors, text_bytes, name_bytes, Identifier, Public, System, Letters, DoctypeState, Found, IsEnd, cut_off, force, with_name, IsInside, quoted, abrupt, AfterSystemIdentifier, system_ends, system_skips, AfterPublicIdentifier, public_ends, public_skips, second, Follows, AfterKeyword, identifier, missing, keyword_skips, keyword_cut_off, AfterName, name_ends, name_skips, names_identifier, FollowsName, AfterOpening, begins_name, nameless, unfinished, first_letter, begins_keyword, goes_on_with, follows, step, step_errors, found_by, fault_errors, end_fault, found_at_end, letters_after, DoctypeGoesOn, FitsState, identifier_of, IsInKeyword, whole, fails}
-use Rattle.hmarkup.specs.declared.doctype_state.DoctypeState.TheVariants as phase
-use Rattle.std.proofs.lemmas.List.{length-map}
+use Rattle.hmarkup.proofs.Names.{if◌then◌else◌, is_greater, length-append, is_space, Step, length, ◌≡◌, ◌<◌, ℕ, arith, eqb, Bool, true, false, List, [], ◌∷◌, ◌++◌, sym, refl, ap, ◌∙◌, subst, Option, Some, None, is_some, to_ascii_lowercase, false≢true, ParseError, EofInDoctype, InvalidCharacterSequenceAfterDoctypeName, Placed, spells_in_any_case, is_quote, error, null_errors, text_bytes, name_bytes, Identifier, Public, System, Letters, DoctypeState, Found, IsEnd, cut_off, force, with_name, IsInside, quoted, abrupt, AfterSystemIdentifier, system_ends, system_skips, AfterPublicIdentifier, public_ends, public_skips, second, Follows, AfterKeyword, identifier, missing, keyword_skips, keyword_cut_off, AfterName, name_ends, name_skips, names_identifier, FollowsName, AfterOpening, begins_name, nameless, unfinished, first_letter, begins_keyword, goes_on_with, follows, step, step_errors, found_by, fault_errors, end_fault, found_at_end, letters_after, DoctypeGoesOn, FitsState, identifier_of, IsInKeyword, whole, fails, length-map}
 use Rattle.hmarkup.specs.Doctype.{unclosed}
+use Rattle.hmarkup.specs.declared.doctype_state.DoctypeState.TheVariants as phase
 use Rattle.hmarkup.proofs.Parts.{named_not, identified_not, is_identified}
 use Rattle.hmarkup.proofs.Spaces.{at_once, with_none}
 use Rattle.hmarkup.proofs.Endings.{end_at_end, skipped_at_end, skips_not_at_end}

@@ -1,8 +1,7 @@
 -- A skipped rest and what follows the system identifier: each character.
-use Rattle.hmarkup.proofs.Names.{◌≡◌, ℕ, Bool, true, false, List, [], ◌∷◌, ◌++◌, sym, refl, ◌∙◌, subst, None, ParseError, UnexpectedCharacterAfterDoctypeSystemIdentifier, Placed, begins, is_space, is_greater, Found, AfterSpace, IsSkipped, AfterSystemIdentifier, system_ends, system_skips, in_skipped, after_system, step_errors, found_by}
+use Rattle.hmarkup.proofs.Names.{◌≡◌, ℕ, Bool, true, false, List, [], ◌∷◌, ◌++◌, sym, refl, ◌∙◌, subst, None, ParseError, UnexpectedCharacterAfterDoctypeSystemIdentifier, Placed, begins, is_space, is_greater, Found, AfterSpace, IsSkipped, AfterSystemIdentifier, system_ends, system_skips, in_skipped, after_system, step_errors, found_by, ends_doctype}
 use Rattle.hmarkup.proofs.Spaces.{past_space, at_once, with_none, any_space, with_space}
 use Rattle.hmarkup.proofs.Endings.{end_not_space, skipped_ends, skipped_goes, skipped_none, skipped_more, skips_from, skips_not_space}
-use Rattle.hmarkup.specs.DoctypeSteps.{ends_doctype}
 use Rattle.hmarkup.proofs.Stepping.{ends_by, skips_by, ended, Goes, Stepped, passed, plain_errors, space_error, greater_error}
 
 module _ (known : Found) (end : ℕ) (rest : List Placed) (p : Placed) (ps : List Placed) (found : Found) where

@@ -1,9 +1,9 @@
 -- Every text begins with a comment, with a bogus comment and with a doctype.
-use Rattle.hmarkup.proofs.Names.{◌≡◌, ℕ, Bool, true, false, eqb, List, [], ◌∷◌, ◌++◌, length, sym, refl, ap, ◌∙◌, Option, Some, None, append_assoc, eqb-true, false≢true, encode_utf8, ParseError, Placed, without_null, CommentKind, Comment, Bogus, DoctypeState, Ending, Dashes, Bang, IsDoctype, step, found_by, Reading, HasReadDoctype, Progress, comment_begun, IsInComment, IsInBogus, IsCommentSpan, is_whole}
+use Rattle.hmarkup.proofs.Names.{◌≡◌, ℕ, Bool, true, false, List, [], ◌∷◌, ◌++◌, sym, refl, ◌∙◌, Option, Some, None, append_assoc, ParseError, ErrorCode, Placed, CommentKind, Comment, Bogus, DoctypeState, IsDoctype, step, found_by, Reading, HasReadDoctype, Progress, comment_begun, HasReadOf, IsCommentSpan}
 use Rattle.hmarkup.specs.Walk.{HasMarkupSpan}
-use Rattle.hmarkup.proofs.Moving.{closes}
-use Rattle.hmarkup.proofs.Walking.{comment_begins, kept_other, kept_past, closed_now, bang_closed_now, empty_now, unclosed_at}
-use Rattle.hmarkup.proofs.InBogus.{plain_read, bogus_kept, bogus_closed, bogus_unclosed}
+use Rattle.hmarkup.proofs.Outcomes.{Outcome, outcome}
+use Rattle.hmarkup.proofs.Walking.{comment_begins, unclosed_at}
+use Rattle.hmarkup.proofs.InBogus.{plain_read, bogus_unclosed}
 use Rattle.hmarkup.proofs.Reading.{read_nothing, read_more, read_whole, read_to_end}
 
 -- `text` was read, and `p ∷ ps` is left
@@ -45,51 +45,22 @@ module _ (end : ℕ) where
   abbrev pub some_doctype : (text : List Placed) → HasMarkupSpan IsDoctype end text
   some_doctype text = doctype_from _ [] [] text read_nothing
 
--- comments
-module _ (end : ℕ) where
-  abbrev HasComment : List Placed → Type 0
-  HasComment = HasMarkupSpan (IsCommentSpan Comment) end
+-- comments of each kind
+module _ (kind : CommentKind) (end : ℕ) where
+  span_by : (w : Progress) (text : List Placed) (errs : List ParseError) (p : Placed) (ps : List Placed)
+      → ((w' : Progress) (errs' : List ParseError) → HasReadOf kind w' (text ++ p ∷ []) errs' → HasMarkupSpan (IsCommentSpan kind) end ((text ++ p ∷ []) ++ ps))
+      → (s : Option ErrorCode × Bool) → Outcome kind w text errs p s → HasMarkupSpan (IsCommentSpan kind) end (text ++ p ∷ ps)
+  span_by w text errs p ps from (code, true) o = ends_now (IsCommentSpan kind) end text p ps _ _ (o end ps)
+  span_by w text errs p ps from (code, false) o = ends_later (IsCommentSpan kind) end text p ps (from _ _ o)
 
-  module _ (w : Progress) (text : List Placed) (errs : List ParseError) (p : Placed) (ps : List Placed) (h : IsInComment w text errs)
-      (from : (w' : Progress) (errs' : List ParseError) → IsInComment w' (text ++ p ∷ []) errs' → HasComment ((text ++ p ∷ []) ++ ps)) where
-    -- at a `>` that follows no `--` and no `--!`
-    open_by : p.ch ≡ 62 → closes w.ending ≡ false → (none : Bool) → eqb (length w.data) 0 ≡ none → HasComment (text ++ p ∷ ps)
-    open_by is e true none =
-        ends_now (IsCommentSpan Comment) end text p ps _ _ (empty_now w text errs p.ch p.at (is_whole w.opening) refl h is e (eqb-true (length w.data) 0 none) end ps)
-    open_by is e false some =
-        ends_later (IsCommentSpan Comment) end text p ps
-        (from _ _ (kept_past w text errs p.ch p.at (is_whole w.opening) refl h e (λ z. absurd (false≢true (sym some ∙ ap (λ (n : ℕ). eqb n 0) z)))))
+  span_from : (w : Progress) (text : List Placed) (errs : List ParseError) (after : List Placed) → HasReadOf kind w text errs → HasMarkupSpan (IsCommentSpan kind) end (text ++ after)
+  span_from w text errs [] h = at_end kind h
+    where
+      at_end : (kind : CommentKind) → HasReadOf kind w text errs → HasMarkupSpan (IsCommentSpan kind) end (text ++ [])
+      at_end Comment h = record { span = text; rest = []; value = _; errors = _; text_is = refl; is_span = unclosed_at w text errs h end }
+      at_end Bogus h = record { span = text; rest = []; value = _; errors = _; text_is = refl; is_span = bogus_unclosed w text errs h }
+  span_from w text errs (p ∷ ps) h = span_by w text errs p ps (λ w' errs' h'. span_from w' (text ++ p ∷ []) errs' ps h') _ (outcome kind w text errs p h)
 
-    greater_by : p.ch ≡ 62 → (ending : Ending) → w.ending ≡ ending → HasComment (text ++ p ∷ ps)
-    greater_by is Dashes e = ends_now (IsCommentSpan Comment) end text p ps _ _ (closed_now w text errs p.ch p.at (is_whole w.opening) refl h is e end ps)
-    greater_by is Bang e = ends_now (IsCommentSpan Comment) end text p ps _ _ (bang_closed_now w text errs p.ch p.at (is_whole w.opening) refl h is e end ps)
-    greater_by is _ e = open_by is (ap closes e) (eqb (length w.data) 0) refl
-
-    comment_by : (greater : Bool) → eqb p.ch 62 ≡ greater → HasComment (text ++ p ∷ ps)
-    comment_by true is = greater_by (eqb-true p.ch 62 is) w.ending refl
-    comment_by false is = ends_later (IsCommentSpan Comment) end text p ps (from _ _ (kept_other w text errs p.ch p.at (is_whole w.opening) refl h is))
-
-  comment_from : (w : Progress) (text : List Placed) (errs : List ParseError) (after : List Placed) → IsInComment w text errs → HasComment (text ++ after)
-  comment_from w text errs [] h = record { span = text; rest = []; value = _; errors = _; text_is = refl; is_span = unclosed_at w text errs h end }
-  comment_from w text errs (p ∷ ps) h = comment_by w text errs p ps h (λ w' errs' h'. comment_from w' (text ++ p ∷ []) errs' ps h') (eqb p.ch 62) refl
-
-  -- bogus comments
-  abbrev HasBogus : List Placed → Type 0
-  HasBogus = HasMarkupSpan (IsCommentSpan Bogus) end
-
-  abbrev after_bogus : Progress → ℕ → Progress
-  after_bogus w c = record { kind = Bogus; ending = w.ending; opening = w.opening; «data» = w.data ++ encode_utf8 (without_null c) }
-
-  bogus_by : (w : Progress) (text : List Placed) (errs : List ParseError) (p : Placed) (ps : List Placed) → IsInBogus w text errs
-      → ((w' : Progress) (errs' : List ParseError) → IsInBogus w' (text ++ p ∷ []) errs' → HasBogus ((text ++ p ∷ []) ++ ps))
-      → (greater : Bool) → eqb p.ch 62 ≡ greater → HasBogus (text ++ p ∷ ps)
-  bogus_by w text errs p ps h from true is = ends_now (IsCommentSpan Bogus) end text p ps _ _ (bogus_closed w text errs p.ch p.at h (eqb-true p.ch 62 is) end ps)
-  bogus_by w text errs p ps h from false is = ends_later (IsCommentSpan Bogus) end text p ps (from _ _ (bogus_kept w text errs p.ch p.at h (after_bogus w p.ch) refl is refl))
-
-  bogus_from : (w : Progress) (text : List Placed) (errs : List ParseError) (after : List Placed) → IsInBogus w text errs → HasBogus (text ++ after)
-  bogus_from w text errs [] h = record { span = text; rest = []; value = _; errors = _; text_is = refl; is_span = bogus_unclosed w text errs h }
-  bogus_from w text errs (p ∷ ps) h = bogus_by w text errs p ps h (λ w' errs' h'. bogus_from w' (text ++ p ∷ []) errs' ps h') (eqb p.ch 62) refl
-
-  pub some_span : (kind : CommentKind) (text : List Placed) → HasMarkupSpan (IsCommentSpan kind) end text
-  some_span Comment text = comment_from (comment_begun Comment []) [] [] text comment_begins
-  some_span Bogus text = bogus_from (comment_begun Bogus []) [] [] text (plain_read [] refl)
+pub some_span : (end : ℕ) (kind : CommentKind) (text : List Placed) → HasMarkupSpan (IsCommentSpan kind) end text
+some_span end Comment text = span_from Comment end (comment_begun Comment []) [] [] text comment_begins
+some_span end Bogus text = span_from Bogus end (comment_begun Bogus []) [] [] text (plain_read [] refl)

@@ -1,9 +1,8 @@
 -- A character of a doctype: what goes on after it.
-use Rattle.hmarkup.proofs.Names.{codes, false≢true, characters, IsEnd, closed, force, sym, ◌≡◌, ℕ, Bool, true, false, not, if◌then◌else◌, List, [], ◌∷◌, ◌++◌, refl, ap, ◌∙◌, Option, Some, None, append-nil, ParseError, ErrorCode, Placed, is_space, is_greater, is_quote, error, error_if, null_errors, DoctypeState, Step, Found, Stands, found_by, step_errors, fault_errors, DoctypeGoesOn}
-use Rattle.hmarkup.specs.Doctype.{Skips}
+use Rattle.hmarkup.proofs.Names.{eqb, eqb-true, subst, codes, false≢true, characters, IsEnd, closed, force, sym, ◌≡◌, ℕ, Bool, true, false, not, if◌then◌else◌, List, [], ◌∷◌, ◌++◌, refl, ap, ◌∙◌, Option, Some, None, append-nil, ParseError, ErrorCode, Placed, is_space, is_greater, is_quote, error, error_if, null_errors, DoctypeState, Step, Found, Stands, found_by, step_errors, fault_errors, DoctypeGoesOn, Skips}
 use Rattle.hmarkup.specs.DoctypeSteps.{goes_to, ends_doctype, refuses, skips}
 use Rattle.hmarkup.proofs.Endings.{end_at, only_greater, greater_spells, skips_at}
-use Rattle.hmarkup.proofs.Characters.{space_not_null, greater_not_null, quote_not_null, no_null_error}
+use Rattle.hmarkup.proofs.Characters.{quote_is, space_not_null, no_null_error}
 
 -- what is after the character: the rest of the doctype, or nothing
 abbrev pub Goes : Option DoctypeState → Found → Stands
@@ -28,10 +27,10 @@ pub space_error : (p : Placed) → is_space p.ch ≡ true → null_errors (p ∷
 space_error p h = no_null_error p (space_not_null p.ch h)
 
 pub greater_error : (p : Placed) → is_greater p.ch ≡ true → null_errors (p ∷ []) ≡ []
-greater_error p h = no_null_error p (greater_not_null p.ch h)
+greater_error p h = no_null_error p (subst (λ (n : ℕ). eqb n 0 ≡ false) (sym (eqb-true p.ch 62 h)) refl)
 
 pub quote_error : (p : Placed) → is_quote p.ch ≡ true → null_errors (p ∷ []) ≡ []
-quote_error p h = no_null_error p (quote_not_null p.ch h)
+quote_error p h = no_null_error p (quote_is p.ch h (λ n. eqb n 0 ≡ false) refl refl)
 
 -- an error where no white space is before
 pub fault_if : (spaced : Bool) (code : ErrorCode) (at : ℕ) → error_if (not spaced) code at ≡ fault_errors (if spaced then None else Some (error code at))

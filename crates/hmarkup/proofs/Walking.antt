@@ -67,12 +67,12 @@ once-past [] held p some k h = absurd (some refl)
 once-past (q ∷ []) [] p some k h = grind (arith, nat_tests, k.0)
 once-past _ _ p some k h = h
 
-module _ (w : Progress) (text : List Placed) (errs : List ParseError) (ch at : ℕ) (nested : Bool) (nested_is : nested ≡ is_whole w.opening) (h : IsInComment w text errs) where
-  abbrev p : Placed
-  p = record { ch = ch; at = at }
-
+module _ (w : Progress) (text : List Placed) (errs : List ParseError) (p : Placed) (h : IsInComment w text errs) where
   abbrev now : List Placed
   now = text ++ p ∷ []
+
+  abbrev errors_now : List ParseError
+  errors_now = errs ++ errors_here (is_whole w.opening) p
 
   now_is : now ≡ h.inner ++ (h.held ++ p ∷ [])
   now_is = ap (λ (x : List Placed). x ++ p ∷ []) h.text_is ∙ append_assoc h.inner h.held (p ∷ [])
@@ -83,19 +83,15 @@ module _ (w : Progress) (text : List Placed) (errs : List ParseError) (ch at : �
   avoids_ending : Avoids is_ending h.inner (h.held ++ p ∷ [])
   avoids_ending = Avoids-more is_ending is_ending p (ending-more p) h.inner h.held h.no_ending h.no_ending
 
-  abbrev errors_now : List ParseError
-  errors_now = errs ++ errors_here nested p
-
-  pub errors_now_are : errors_now ≡ comment_errors_after [] now
-  errors_now_are = ap (λ (es : List ParseError). es ++ errors_here nested p) h.errors_are
-      ∙ ap (λ (b : Bool). comment_errors_after [] text ++ errors_here b p) (nested_is ∙ sym h.opening.whole)
+  errors_now_are : errors_now ≡ comment_errors_after [] now
+  errors_now_are = (λ i. h.errors_are i ++ errors_here (sym h.opening.whole i) p)
       ∙ ap (λ (es : List ParseError). comment_errors_after [] text ++ es) (sym (append-nil (errors_here (ends_with_opening (backwards [] text)) p)))
       ∙ sym (errors-append [] text (p ∷ []))
 
   -- the comment goes on
-  pub kept : closes_at_once now ≡ false → (closes w.ending ≡ true → eqb ch 62 ≡ false) → IsInComment (next_progress w ch) now errors_now
+  kept : closes_at_once now ≡ false → (closes w.ending ≡ true → eqb p.ch 62 ≡ false) → IsInComment (next_progress w p.ch) now errors_now
   kept starts unclosed' =
-      let m = moves w.ending h.held ch at unclosed' h.is_held in
+      let m = moves w.ending h.held p.ch p.at unclosed' h.is_held in
       record {
         kind_is = h.kind_is;
         inner = h.inner ++ m.moved;
@@ -105,52 +101,61 @@ module _ (w : Progress) (text : List Placed) (errs : List ParseError) (ch at : �
         not_at_once = starts;
         no_close = Avoids-append closes_comment h.inner m.moved m.left (subst (λ (x : List Placed). Avoids closes_comment h.inner x) m.split avoids_closing) m.no_close;
         no_ending = Avoids-append is_ending h.inner m.moved m.left (subst (λ (x : List Placed). Avoids is_ending h.inner x) m.split avoids_ending) m.no_ending;
-        opening = subst (λ (x : List Placed). IsOpening (next_opening w.opening ch) x) (sym (backwards-snoc [] text p)) (opening-next w.opening (backwards [] text) ch at h.opening);
-        data_is = ap (λ (d : List ℕ). d ++ decided w.ending ch) h.data_is ∙ ap (λ (d : List ℕ). text_bytes h.inner ++ d) (sym m.bytes_are) ∙ sym (text_bytes-append h.inner m.moved);
+        opening = subst (λ (x : List Placed). IsOpening (next_opening w.opening p.ch) x) (sym (backwards-snoc [] text p)) (opening-next w.opening (backwards [] text) p.ch p.at h.opening);
+        data_is = ap (λ (d : List ℕ). d ++ decided w.ending p.ch) h.data_is ∙ ap (λ (d : List ℕ). text_bytes h.inner ++ d) (sym m.bytes_are) ∙ sym (text_bytes-append h.inner m.moved);
         errors_are = errors_now_are;
       }
 
+  pub kept_other : eqb p.ch 62 ≡ false → IsInComment (next_progress w p.ch) now errors_now
+  kept_other e = kept (once-other text p e h.not_at_once) (λ _. e)
+
+-- a `>` is no error by itself
+greater_alone : (nested : Bool) (at : ℕ) → errors_here nested (record { ch = 62; at = at }) ≡ []
+greater_alone true at = refl
+greater_alone false at = refl
+
+module _ (w : Progress) (text : List Placed) (errs : List ParseError) (at : ℕ) (h : IsInComment w text errs) where
+  abbrev greater : Placed
+  greater = record { ch = 62; at = at }
+
+  same_errors : errs ≡ comment_errors_after [] (text ++ record { ch = 62; at = at } ∷ [])
+  same_errors = sym (append-nil errs) ∙ ap (λ (es : List ParseError). errs ++ es) (sym (greater_alone (is_whole w.opening) at)) ∙ errors_now_are w text errs greater h
+
   -- what is before the closing mark that ends here
-  before_now : before closes_comment (h.held ++ p ∷ []) ≡ [] → h.inner ≡ before closes_comment now
-  before_now e = sym (ap (before closes_comment) now_is ∙ before-avoids closes_comment h.inner (h.held ++ p ∷ []) avoids_closing
+  before_now : before closes_comment (h.held ++ record { ch = 62; at = at } ∷ []) ≡ [] → h.inner ≡ before closes_comment (text ++ record { ch = 62; at = at } ∷ [])
+  before_now e = sym (ap (before closes_comment) (now_is w text errs greater h) ∙ before-avoids closes_comment h.inner (h.held ++ greater ∷ []) (avoids_closing w text errs greater h)
       ∙ ap (λ (x : List Placed). h.inner ++ x) e ∙ append-nil h.inner)
 
-  starts_not : closes w.ending ≡ true → closes_at_once now ≡ false
-  starts_not e = once-long text (p ∷ [])
+  starts_not : closes w.ending ≡ true → closes_at_once (text ++ record { ch = 62; at = at } ∷ []) ≡ false
+  starts_not e = once-long text (greater ∷ [])
       (let k = held_long w.ending h.held h.is_held e in omega (arith, k, ap length h.text_is, length-append h.inner h.held)) h.not_at_once
 
-  -- it is closed by `-->`
-  pub closed_now : ch ≡ 62 → w.ending ≡ Dashes → (end : ℕ) (rest : List Placed) → IsComment end rest now w.data errors_now
-  closed_now is e end rest =
-      let k = dashes_close w.ending h.held ch at is h.is_held e in
-      closed h.inner (h.held ++ p ∷ []) now_is (starts_not (ap closes e)) (before_now k.0) k.1 h.data_is errors_now_are
+  -- it closes the comment by `-->`, by `--!>`, and at its start
+  pub closed_now : w.ending ≡ Dashes → (end : ℕ) (rest : List Placed) → IsComment end rest (text ++ record { ch = 62; at = at } ∷ []) w.data (errs ++ [])
+  closed_now e end rest =
+      let k = dashes_close w.ending h.held at h.is_held e in
+      closed h.inner (h.held ++ greater ∷ []) (now_is w text errs greater h) (starts_not (ap closes e)) (before_now k.0) k.1 h.data_is (append-nil errs ∙ same_errors)
 
-  -- it is closed by `--!>`
-  pub bang_closed_now : ch ≡ 62 → w.ending ≡ Bang → (end : ℕ) (rest : List Placed) → IsComment end rest now w.data (errs ++ (errors_here nested p ++ error IncorrectlyClosedComment at ∷ []))
-  bang_closed_now is e end rest =
-      let k = bang_closes w.ending h.held ch at is h.is_held e in
-      closed_with_bang h.inner h.held (p ∷ []) (ap (λ (x : List Placed). x ++ p ∷ []) h.text_is) (starts_not (ap closes e)) (before_now k.0) k.1 (ap (λ (c : ℕ). c ∷ []) is) h.data_is
-      (sym (append_assoc errs (errors_here nested p) (error IncorrectlyClosedComment at ∷ [])) ∙ ap (λ (es : List ParseError). es ++ error IncorrectlyClosedComment at ∷ []) errors_now_are)
+  pub bang_closed_now : w.ending ≡ Bang → (end : ℕ) (rest : List Placed) → IsComment end rest (text ++ record { ch = 62; at = at } ∷ []) w.data (errs ++ error IncorrectlyClosedComment at ∷ [])
+  bang_closed_now e end rest =
+      let k = bang_closes w.ending h.held at h.is_held e in
+      closed_with_bang h.inner h.held (greater ∷ []) (ap (λ (x : List Placed). x ++ greater ∷ []) h.text_is) (starts_not (ap closes e)) (before_now k.0) k.1 refl h.data_is
+      (ap (λ (es : List ParseError). es ++ error IncorrectlyClosedComment at ∷ []) same_errors)
 
-  -- it is closed at its start
-  pub empty_now : ch ≡ 62 → closes w.ending ≡ false → length w.data ≡ 0 → (end : ℕ) (rest : List Placed) → IsComment end rest now w.data (errs ++ (errors_here nested p ++ error AbruptClosingOfEmptyComment at ∷ []))
-  empty_now is e none end rest =
+  pub empty_now : closes w.ending ≡ false → length w.data ≡ 0 → (end : ℕ) (rest : List Placed) → IsComment end rest (text ++ record { ch = 62; at = at } ∷ []) w.data (errs ++ error AbruptClosingOfEmptyComment at ∷ [])
+  empty_now e none end rest =
       let nothing : h.inner ≡ [] = data-none h.inner (sym (ap length h.data_is) ∙ none) in
       let text_is : text ≡ h.held = h.text_is ∙ ap (λ (x : List Placed). x ++ h.held) nothing in
-      let now_held : now ≡ h.held ++ p ∷ [] = ap (λ (x : List Placed). x ++ p ∷ []) text_is in
-      closed_at_once h.held (p ∷ []) now_held (dash_held w.ending h.held h.is_held e) (ap (λ (c : ℕ). c ∷ []) is) (h.data_is ∙ ap text_bytes nothing)
-      (sym (append_assoc errs (errors_here nested p) (error AbruptClosingOfEmptyComment at ∷ [])) ∙ ap (λ (es : List ParseError). es ++ error AbruptClosingOfEmptyComment at ∷ []) errors_now_are)
+      closed_at_once h.held (greater ∷ []) (ap (λ (x : List Placed). x ++ greater ∷ []) text_is) (dash_held w.ending h.held h.is_held e) refl (h.data_is ∙ ap text_bytes nothing)
+      (ap (λ (es : List ParseError). es ++ error AbruptClosingOfEmptyComment at ∷ []) same_errors)
 
-  -- it goes on at a `>` after data
-  pub kept_past : closes w.ending ≡ false → (length w.data ≡ 0 → ⊥) → IsInComment (next_progress w ch) now errors_now
+  -- or goes on after data
+  pub kept_past : closes w.ending ≡ false → (length w.data ≡ 0 → ⊥) → IsInComment (next_progress w 62) (text ++ record { ch = 62; at = at } ∷ []) (errs ++ [])
   kept_past e some =
-      kept
-      (ap (λ (x : List Placed). closes_at_once (x ++ p ∷ [])) h.text_is
-      ∙ once-past h.inner h.held p (λ z. some (ap length h.data_is ∙ none_of h.inner z)) h.no_ending (sym (ap closes_at_once h.text_is) ∙ h.not_at_once))
-      (λ k. absurd (false≢true (sym e ∙ k)))
-
-  pub kept_other : eqb ch 62 ≡ false → IsInComment (next_progress w ch) now errors_now
-  kept_other e = kept (once-other text p e h.not_at_once) (λ _. e)
+      subst (λ (es : List ParseError). IsInComment (next_progress w 62) (text ++ greater ∷ []) (errs ++ es)) (greater_alone (is_whole w.opening) at) (kept w text errs greater h
+      (ap (λ (x : List Placed). closes_at_once (x ++ greater ∷ [])) h.text_is
+      ∙ once-past h.inner h.held greater (λ z. some (ap length h.data_is ∙ none_of h.inner z)) h.no_ending (sym (ap closes_at_once h.text_is) ∙ h.not_at_once))
+      (λ k. absurd (false≢true (sym e ∙ k))))
 
 -- no closing mark is in it
 pub before-text : (w : Progress) (text : List Placed) (errs : List ParseError) → IsInComment w text errs → text ≡ before closes_comment text

@@ -1,12 +1,16 @@
--- What a comment walk does at a character that does not end the comment. Only contracts of private functions cite this.
-use Rattle.std.specs.Prelude.{ℕ, ◌==◌, if◌then◌else◌, List, [], ◌++◌, codes}
+-- What a comment walk does at a character and at a run. Only contracts of private functions cite this.
+use Rattle.std.specs.Prelude.{ℕ, Bool, true, false, ◌==◌, if◌then◌else◌, List, [], ◌++◌, codes, length, Option, Some, None}
 use Rattle.std.specs.Char.{encode_utf8}
+use Rattle.names.specs.declared.error.ErrorCode.{ErrorCode}
+use Rattle.names.specs.declared.error.ErrorCode.TheVariants.{AbruptClosingOfEmptyComment, IncorrectlyClosedComment, NestedComment}
 use Rattle.names.specs.Placed.{without_null}
+use Rattle.hmarkup.specs.declared.comment.CommentKind.{CommentKind}
+use Rattle.hmarkup.specs.declared.comment.CommentKind.TheVariants.{Comment, Bogus}
 use Rattle.hmarkup.specs.declared.tail.Ending.{Ending}
 use Rattle.hmarkup.specs.declared.tail.Ending.TheVariants.{Plain, Dash, Dashes, Bang}
 use Rattle.hmarkup.specs.declared.tail.Opening.{Opening}
 use Rattle.hmarkup.specs.declared.tail.Opening.TheVariants.{Outside, Less, LessBang, LessBangDash, Whole}
-use Rattle.hmarkup.specs.CommentWalk.{Progress}
+use Rattle.hmarkup.specs.CommentWalk.{Progress, is_whole}
 
 -- the ending after a `-`, after a `!`, and after any character
 abbrev pub dash_after : Ending → Ending
@@ -73,3 +77,31 @@ next_progress walk c = record {
 -- the walk after a run of plain data, given in UTF-8
 abbrev pub next_run : Progress → List ℕ → Progress
 next_run walk run = record { kind = walk.kind; ending = Plain; opening = Outside; «data» = walk.data ++ (held_ending_text walk.ending ++ run) }
+
+-- what a walk of each kind keeps of a character that does not end the comment, and of plain data
+abbrev pub with_char : CommentKind → Progress → ℕ → Progress
+with_char Comment walk c = next_progress walk c
+with_char Bogus walk c = record walk { «data» = walk.data ++ encode_utf8 (without_null c) }
+
+abbrev pub with_data : CommentKind → Progress → List ℕ → Progress
+with_data Comment walk run = next_run walk run
+with_data Bogus walk run = record walk { «data» = walk.data ++ run }
+
+-- whether the text ends with an inner `<!--`, which is an error at most characters
+abbrev pub is_nested : CommentKind → Progress → Bool
+is_nested Comment walk = is_whole walk.opening
+is_nested Bogus walk = false
+
+-- What a `>` is in a comment, which is empty or has data: its error, and whether it ends the comment.
+abbrev pub closing : Ending → Bool → Option ErrorCode × Bool
+closing Dashes empty = (None, true)
+closing Bang empty = (Some IncorrectlyClosedComment, true)
+closing _ empty = if empty then (Some AbruptClosingOfEmptyComment, true) else (None, false)
+
+-- the same of any character, in a walk of each kind
+abbrev pub greater_step : CommentKind → Progress → Option ErrorCode × Bool
+greater_step Comment walk = closing walk.ending (length walk.data == 0)
+greater_step Bogus walk = (None, true)
+
+abbrev pub comment_step : CommentKind → Progress → ℕ → Option ErrorCode × Bool
+comment_step kind walk c = if c == 62 then greater_step kind walk else (if is_nested kind walk then Some NestedComment else None, false)

@@ -1,17 +1,17 @@
 //! Reads a comment or a bogus comment (HTML Standard, `#bogus-comment-state` and `#comment-start-state` to `#comment-end-bang-state`), one
 //! character at a time.
 
-ghost use Rattle.std.specs.Prelude.{◌≡◌, ℕ, List, [], true, IfOk, OnOk, string_bytes};
+ghost use Rattle.std.specs.Prelude.{◌≡◌, ℕ, List, [], true, IfOk, OnOk, option_map, string_bytes};
 ghost use Rattle.std.specs.List.{list_all};
 ghost use Rattle.std.specs.Str.{chars};
-ghost use Rattle.hmarkup.specs.Vocabulary.{Error, Placed, all, characters, placed, Hands, Kind, Comment, Bogus, errors_here, is_only_data, is_plain_in_bogus, BeginsSpans};
-ghost use Rattle.hmarkup.specs.Vocabulary.{IsOpenMarkup, ClosedBy, HasMarkupSpan, IsOneSpan, TakesMarkup, TakesRun, EndsMarkup, Progress, comment_begun, HasReadOf, IsInComment, IsCommentSpan};
-ghost use Rattle.hmarkup.specs.Vocabulary.{closing_mark, next_progress, next_run};
+ghost use Rattle.hmarkup.specs.Vocabulary.{Error, Placed, all, characters, error, placed, Kind, Comment, Bogus, is_only_data, is_plain_in_bogus, BeginsSpans};
+ghost use Rattle.hmarkup.specs.Vocabulary.{IsOpenMarkup, ClosedBy, HasMarkupSpan, IsOneSpan, TakesMarkup, TakesRun, EndsMarkup, Progress, comment_begun, HasReadOf, IsCommentSpan};
+ghost use Rattle.hmarkup.specs.Vocabulary.{closing_mark, comment_step, is_nested, with_char, with_data};
 
 use crate::sink::ErrorSink;
 use crate::tail::{Ending, Opening};
-use crate::taking::{push, tell, tell_if, text_of};
-use names::{ErrorCode, Placed, Refusal};
+use crate::taking::{push, report, tell, text_of};
+use names::{ErrorCode, ParseError, Placed, Refusal};
 use std::alloc::{AllocError, Global};
 use std::marker::Model;
 
@@ -43,14 +43,10 @@ impl Model for CommentWalk {
     ghost view = { λ w. record { kind = w.kind; ending = w.ending; opening = w.opening; «data» = string_bytes w.text } };
 }
 
-/// Reports the errors of a character of a comment.
-fn report<S: ErrorSink>(nested: bool, ch: char, at: u64, errors: &mut S) -> Result<(), Refusal>
-    ensures { Hands S.gives errors.old (errors_here nested (record { ch = ch; at = at })) result errors.new }
+fn fault_at(code: Option<ErrorCode>, at: u64) -> Option<ParseError>
+    ensures { result ≡ option_map (λ code. error code at) code }
 {
-    if nested && ch != '>' {
-        tell(ErrorCode::NestedComment, at, errors)?;
-    }
-    tell_if(ch == '\0', ErrorCode::UnexpectedNullCharacter, at, errors)
+    Some(ParseError { code: code?, at })
 }
 
 impl CommentWalk {
@@ -101,54 +97,39 @@ impl CommentWalk {
             → TakesMarkup S.gives (HasReadOf kind) (IsCommentSpan kind) text raised (record { ch = ch; at = at }) errors.old
             result self.new self.new.data errors.new }
     {
-        match self.kind {
-            CommentKind::Comment => self.take_in_comment(ch, at, errors),
-            CommentKind::Bogus => {
-                if ch == '>' {
-                    return Ok(true);
-                }
-                report(false, ch, at, errors)?;
-                push(&mut self.text, ch)?;
-                Ok(false)
-            }
-        }
-    }
-
-    /// Reads a character in the comment start state, the comment state, or one of those around a closing mark or an inner `<!--`.
-    fn take_in_comment<S: ErrorSink>(
-        &mut self,
-        ch: char,
-        at: u64,
-        errors: &mut S,
-    ) -> Result<bool, Refusal>
-        ensures { (text : List Placed) (raised : List Error) → IsInComment self.old text raised
-            → TakesMarkup S.gives IsInComment (IsCommentSpan Comment) text raised (record { ch = ch; at = at }) errors.old
-            result self.new self.new.data errors.new }
-    {
-        report(self.opening.is_whole(), ch, at, errors)?;
-        if ch == '>' {
-            match self.ending {
-                Ending::Dashes => return Ok(true),
-                Ending::Bang => {
-                    tell(ErrorCode::IncorrectlyClosedComment, at, errors)?;
-                    return Ok(true);
-                }
-                Ending::Plain | Ending::Dash => {
-                    if self.text.is_empty() {
-                        tell(ErrorCode::AbruptClosingOfEmptyComment, at, errors)?;
-                        return Ok(true);
-                    }
-                }
-            }
+        let (code, ends) = self.step(ch);
+        report(fault_at(code, at), ch, at, errors)?;
+        if ends {
+            return Ok(true);
         }
         self.keep(ch)?;
         Ok(false)
     }
 
-    /// Keeps characters that are only data.
-    fn keep_run(&mut self, run: &str) -> Result<(), AllocError>
-        ensures { OnOk result (self.new ≡ next_run self.old run.now) }
+    /// The error of a character, other than the one for NUL, and whether it ends the comment.
+    fn step(&self, ch: char) -> (Option<ErrorCode>, bool)
+        ensures { result ≡ comment_step self.now.kind self.now ch }
     {
+        match self.kind {
+            _ if ch != '>' => (self.is_nested().then_some(ErrorCode::NestedComment), false),
+            CommentKind::Comment => self.ending.closing(self.text.is_empty()),
+            CommentKind::Bogus => (None, true),
+        }
+    }
+
+    /// Whether the text ends with an inner `<!--`.
+    fn is_nested(&self) -> bool
+        ensures { result ≡ is_nested self.now.kind self.now }
+    {
+        matches!(self.kind, CommentKind::Comment) && self.opening.is_whole()
+    }
+
+    fn keep_run(&mut self, run: &str) -> Result<(), AllocError>
+        ensures { OnOk result (self.new ≡ with_data self.old.kind self.old run.now) }
+    {
+        if matches!(self.kind, CommentKind::Bogus) {
+            return self.text.push_str(run);
+        }
         if self.ending != Ending::Plain {
             self.text.push_str(self.ending.text())?;
         }
@@ -158,10 +139,12 @@ impl CommentWalk {
         Ok(())
     }
 
-    /// Keeps a character that does not end the comment.
     fn keep(&mut self, ch: char) -> Result<(), AllocError>
-        ensures { OnOk result (self.new ≡ next_progress self.old ch) }
+        ensures { OnOk result (self.new ≡ with_char self.old.kind self.old ch) }
     {
+        if matches!(self.kind, CommentKind::Bogus) {
+            return push(&mut self.text, ch);
+        }
         let may_close = ch == '-' || ch == '!';
         if may_close || self.ending != Ending::Plain {
             self.text.push_str(self.ending.decided(ch))?;
@@ -189,14 +172,10 @@ impl CommentWalk {
         if run.is_empty() {
             return Ok(());
         }
-        match self.kind {
-            CommentKind::Comment => {
-                let nested = self.opening.is_whole();
-                tell_if(nested, ErrorCode::NestedComment, at, errors)?;
-                Ok(self.keep_run(run)?)
-            }
-            CommentKind::Bogus => Ok(self.text.push_str(run)?),
+        if self.is_nested() {
+            tell(ErrorCode::NestedComment, at, errors)?;
         }
+        Ok(self.keep_run(run)?)
     }
 
     /// Tells the walk that the input ends here, at byte offset `end`. An error is the sink's refusal.

@@ -1,17 +1,17 @@
 //! Reads a doctype (HTML Standard, `#doctype-state` to `#bogus-doctype-state`), one character at a time.
 
-ghost use Rattle.std.specs.Prelude.{◌≡◌, ◌≤◌, ◌++◌, ◌∷◌, ℕ, [], List, Option, Some, OnOk, true, codes, length};
+ghost use Rattle.std.specs.Prelude.{◌≡◌, ◌≤◌, ◌++◌, ℕ, [], List, Option, Some, OnOk, true, codes, length};
 ghost use Rattle.std.specs.Char.{encode_utf8};
 ghost use Rattle.std.specs.List.{list_all, prefix_len};
 ghost use Rattle.std.specs.Str.{chars};
-ghost use Rattle.hmarkup.specs.Vocabulary.{Error, Placed, characters, placed, null_errors, without_null, Hands, IsDoctype, force, lengthened, fault_errors, found_by, Reading, is_data, with_run};
+ghost use Rattle.hmarkup.specs.Vocabulary.{Error, Placed, characters, placed, without_null, IsDoctype, force, lengthened, found_by, Reading, is_data, with_run};
 ghost use Rattle.hmarkup.specs.Vocabulary.{HasReadDoctype, optional_text, BeginsSpans, IsOpenMarkup, ClosedBy, HasMarkupSpan, IsOneSpan, TakesMarkup, EndsMarkup};
 
 use crate::doctype_state::{DoctypeState, Keeps, Step};
 use crate::keyword::Identifier;
 use crate::sink::ErrorSink;
-use crate::taking::{push, tell_if};
-use names::{ErrorCode, ParseError, Refusal};
+use crate::taking::{push, report};
+use names::Refusal;
 use std::alloc::{AllocError, Global};
 use std::marker::Model;
 
@@ -54,29 +54,12 @@ impl Model for DoctypeWalk {
     ghost view = { λ w. record { phase = w.phase; found = w.found } };
 }
 
-/// Reports the errors of a character: its fault, and the one for NUL.
-fn report<S: ErrorSink>(
-    fault: Option<ParseError>,
-    ch: char,
-    at: u64,
-    errors: &mut S,
-) -> Result<(), Refusal>
-    ensures { Hands S.gives errors.old (fault_errors fault ++ null_errors (record { ch = ch; at = at } ∷ [])) result errors.new }
-{
-    if let Some(fault) = fault {
-        errors.take_error(fault)?;
-    }
-    tell_if(ch == '\0', ErrorCode::UnexpectedNullCharacter, at, errors)
-}
-
-/// Appends a character, with U+FFFD in place of NUL; a missing text begins with it.
 fn add(part: &mut Option<String>, ch: char, alloc: Global) -> Result<(), AllocError>
     ensures { OnOk result (optional_text part.new ≡ Some (lengthened (optional_text part.old) (encode_utf8 (without_null ch)))) }
 {
     push(part.get_or_insert(String::new(alloc)), ch)
 }
 
-/// Appends a run, which may be empty; a missing text begins with it.
 fn add_run(part: &mut Option<String>, run: &str, alloc: Global) -> Result<(), AllocError>
     ensures { OnOk result (optional_text part.new ≡ Some (lengthened (optional_text part.old) run.now)) }
 {
@@ -84,14 +67,12 @@ fn add_run(part: &mut Option<String>, run: &str, alloc: Global) -> Result<(), Al
 }
 
 impl Doctype {
-    /// Sets the force-quirks flag.
     fn force(&mut self)
         ensures { self.new ≡ force self.old }
     {
         self.forced = true;
     }
 
-    /// Keeps a step's character, and forces quirks mode if the step does.
     fn take(&mut self, step: Step, ch: char, alloc: Global) -> Result<(), AllocError>
         ensures { (at : ℕ) → OnOk result (self.new ≡ found_by step (record { ch = ch; at = at }) self.old) }
     {
@@ -106,7 +87,6 @@ impl Doctype {
         }
     }
 
-    /// Keeps a run that is only data in a state.
     fn take_run(&mut self, phase: DoctypeState, run: &str, alloc: Global) -> Result<(), AllocError>
         ensures { OnOk result (self.new ≡ with_run phase run.now self.old) }
     {
@@ -164,7 +144,13 @@ impl DoctypeWalk {
         ensures counted { result ≡ prefix_len (is_data self.now.phase) run.now }
         ensures few { result ≤ length run.now }
     {
-        self.phase.data_run(run)
+        let phase = self.phase;
+        for (index, byte) in run.as_bytes().iter().enumerate() {
+            if !phase.is_data(*byte) {
+                return index;
+            }
+        }
+        run.len()
     }
 
     /// Reads a run of characters that are only data here, as `take_char` would one by one. It raises no error.

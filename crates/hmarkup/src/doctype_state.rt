@@ -1,7 +1,6 @@
 //! The states of reading a doctype (HTML Standard, `#doctype-state` to `#bogus-doctype-state`), and what a character does in each.
 
-ghost use Rattle.std.specs.Prelude.{◌≡◌, ◌≤◌, ◌==◌, length};
-ghost use Rattle.std.specs.List.{prefix_len};
+ghost use Rattle.std.specs.Prelude.{◌≡◌, ◌==◌};
 ghost use Rattle.std.specs.Char.{to_ascii_lowercase};
 ghost use Rattle.hmarkup.specs.Vocabulary.{is_space, is_greater, is_quote, goes_to, ends_doctype, faulty, refuses, skips, step, before_name, in_name, after_name};
 ghost use Rattle.hmarkup.specs.Vocabulary.{in_keyword, after_keyword, in_quotes, after_public, after_system, first_letter, next_letter, end_fault, is_data};
@@ -62,7 +61,6 @@ pub struct Step {
 }
 
 impl Step {
-    /// Only the state changes.
     fn to(next: DoctypeState) -> Step
         ensures { result ≡ goes_to next }
     {
@@ -72,7 +70,6 @@ impl Step {
         }
     }
 
-    /// The doctype ends.
     fn end() -> Step
         ensures { result ≡ ends_doctype }
     {
@@ -84,7 +81,6 @@ impl Step {
         }
     }
 
-    /// A `>` that is an error, forces quirks mode and ends the doctype.
     fn refuse(code: ErrorCode, at: u64) -> Step
         ensures { result ≡ refuses code at }
     {
@@ -95,7 +91,6 @@ impl Step {
         }
     }
 
-    /// An error that leads to the bogus DOCTYPE state.
     fn skip(code: ErrorCode, at: u64, forces: bool) -> Step
         ensures { result ≡ skips code at forces }
     {
@@ -106,7 +101,6 @@ impl Step {
         }
     }
 
-    /// A character that is kept, with an error if no white space precedes it.
     fn keep(keeps: Keeps, spaced: bool, code: ErrorCode, at: u64, next: DoctypeState) -> Step
         ensures { result ≡ faulty keeps spaced code at next }
     {
@@ -123,7 +117,6 @@ impl Step {
 }
 
 impl DoctypeState {
-    /// What a character does whose first byte is at offset `at`.
     pub fn step(self, ch: char, at: u64) -> Step
         ensures { result ≡ step self (record { ch = ch; at = at }) }
     {
@@ -141,37 +134,18 @@ impl DoctypeState {
         }
     }
 
-    /// How many bytes at the front of a run are only data in this state.
-    pub fn data_run(self, run: &str) -> usize
-        ensures counted { result ≡ prefix_len (is_data self) run.now }
-        ensures few { result ≤ length run.now }
-    {
-        for (index, byte) in run.as_bytes().iter().enumerate() {
-            if !self.is_data(*byte) {
-                return index;
-            }
-        }
-        run.len()
-    }
-
     /// Whether this byte is only data: it is kept as it is, without an error, and the state stays.
-    fn is_data(self, byte: u8) -> bool
+    pub fn is_data(self, byte: u8) -> bool
         ensures { result ≡ is_data self byte }
     {
         match self {
-            DoctypeState::Name => {
-                !byte.is_ascii_whitespace()
-                    && !byte.is_ascii_uppercase()
-                    && !matches!(byte, b'>' | 0)
-            }
-            DoctypeState::Quoted(_, mark) => {
-                char::from(byte) != mark && !matches!(byte, b'>' | 0)
-            }
+            _ if matches!(byte, b'>' | 0) => false,
+            DoctypeState::Name => !byte.is_ascii_whitespace() && !byte.is_ascii_uppercase(),
+            DoctypeState::Quoted(_, mark) => char::from(byte) != mark,
             _ => false,
         }
     }
 
-    /// The error, if any, when the input ends here, at byte offset `end`.
     pub fn end_fault(self, end: u64) -> Option<ParseError>
         ensures { result ≡ end_fault self end }
     {
@@ -189,7 +163,6 @@ impl DoctypeState {
     }
 }
 
-/// What a character does in each state.
 impl Step {
     fn before_name(spaced: bool, ch: char, at: u64) -> Step
         ensures { result ≡ before_name spaced (is_space ch) (is_greater ch) at }
@@ -248,13 +221,13 @@ impl Step {
     fn after_keyword(which: Identifier, spaced: bool, ch: char, at: u64) -> Step
         ensures { result ≡ after_keyword which spaced (is_space ch) (is_greater ch) (is_quote ch) ch at }
     {
-        let code = which.not_spaced();
+        let errors = which.errors();
         let quoted = DoctypeState::Quoted(which, ch);
         match ch {
-            '>' => Step::refuse(which.missing(), at),
-            '"' | '\'' => Step::keep(Keeps::Quote(which), spaced, code, at, quoted),
+            '>' => Step::refuse(errors.missing, at),
+            '"' | '\'' => Step::keep(Keeps::Quote(which), spaced, errors.not_spaced, at, quoted),
             _ if ch.is_ascii_whitespace() => Step::to(DoctypeState::AfterKeyword(which, true)),
-            _ => Step::skip(which.not_quoted(), at, true),
+            _ => Step::skip(errors.not_quoted, at, true),
         }
     }
 
@@ -264,7 +237,7 @@ impl Step {
         match which {
             Identifier::Public if ch == mark => Step::to(DoctypeState::AfterPublic(false)),
             Identifier::System if ch == mark => Step::to(DoctypeState::AfterSystem),
-            _ if ch == '>' => Step::refuse(which.abrupt(), at),
+            _ if ch == '>' => Step::refuse(which.errors().abrupt, at),
             _ => Step {
                 keeps: Keeps::Inside(which),
                 ..Step::to(DoctypeState::Quoted(which, mark))
@@ -282,7 +255,7 @@ impl Step {
             '>' => Step::end(),
             '"' | '\'' => Step::keep(Keeps::Quote(which), spaced, code, at, quoted),
             _ if ch.is_ascii_whitespace() => Step::to(DoctypeState::AfterPublic(true)),
-            _ => Step::skip(which.not_quoted(), at, true),
+            _ => Step::skip(which.errors().not_quoted, at, true),
         }
     }
 

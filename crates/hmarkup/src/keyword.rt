@@ -12,8 +12,19 @@ pub enum Identifier {
     System,
 }
 
+/// The errors of what follows the keyword of an identifier.
+#[derive(Clone, Copy)]
+pub struct IdentifierErrors {
+    /// No white space separates the keyword from the identifier.
+    pub not_spaced: ErrorCode,
+    /// A `>` is in place of the identifier, or any other character.
+    pub missing: ErrorCode,
+    pub not_quoted: ErrorCode,
+    /// A `>` is inside the identifier.
+    pub abrupt: ErrorCode,
+}
+
 impl Identifier {
-    /// The keyword that announces it, in lower case.
     fn keyword(self) -> &'static str
         ensures { result.now ≡ keyword self }
     {
@@ -23,43 +34,22 @@ impl Identifier {
         }
     }
 
-    /// The error when no white space separates the keyword from the identifier.
-    pub fn not_spaced(self) -> ErrorCode
-        ensures { result ≡ no_space_after_keyword self }
+    pub fn errors(self) -> IdentifierErrors
+        ensures { result ≡ record { not_spaced = no_space_after_keyword self; missing = no_identifier self; not_quoted = no_quote self; abrupt = abrupt_identifier self } }
     {
         match self {
-            Identifier::Public => ErrorCode::MissingWhitespaceAfterDoctypePublicKeyword,
-            Identifier::System => ErrorCode::MissingWhitespaceAfterDoctypeSystemKeyword,
-        }
-    }
-
-    /// The error for a `>` in place of the identifier.
-    pub fn missing(self) -> ErrorCode
-        ensures { result ≡ no_identifier self }
-    {
-        match self {
-            Identifier::Public => ErrorCode::MissingDoctypePublicIdentifier,
-            Identifier::System => ErrorCode::MissingDoctypeSystemIdentifier,
-        }
-    }
-
-    /// The error for any other character in its place.
-    pub fn not_quoted(self) -> ErrorCode
-        ensures { result ≡ no_quote self }
-    {
-        match self {
-            Identifier::Public => ErrorCode::MissingQuoteBeforeDoctypePublicIdentifier,
-            Identifier::System => ErrorCode::MissingQuoteBeforeDoctypeSystemIdentifier,
-        }
-    }
-
-    /// The error for a `>` inside the identifier.
-    pub fn abrupt(self) -> ErrorCode
-        ensures { result ≡ abrupt_identifier self }
-    {
-        match self {
-            Identifier::Public => ErrorCode::AbruptDoctypePublicIdentifier,
-            Identifier::System => ErrorCode::AbruptDoctypeSystemIdentifier,
+            Identifier::Public => IdentifierErrors {
+                not_spaced: ErrorCode::MissingWhitespaceAfterDoctypePublicKeyword,
+                missing: ErrorCode::MissingDoctypePublicIdentifier,
+                not_quoted: ErrorCode::MissingQuoteBeforeDoctypePublicIdentifier,
+                abrupt: ErrorCode::AbruptDoctypePublicIdentifier,
+            },
+            Identifier::System => IdentifierErrors {
+                not_spaced: ErrorCode::MissingWhitespaceAfterDoctypeSystemKeyword,
+                missing: ErrorCode::MissingDoctypeSystemIdentifier,
+                not_quoted: ErrorCode::MissingQuoteBeforeDoctypeSystemIdentifier,
+                abrupt: ErrorCode::AbruptDoctypeSystemIdentifier,
+            },
         }
     }
 }

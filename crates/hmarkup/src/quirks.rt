@@ -24,7 +24,6 @@ pub enum QuirkKind {
 }
 
 impl QuirkKind {
-    /// The kind that a line's first word names.
     fn named(word: &str) -> Option<QuirkKind>
         ensures { MatchOption result (IsWordless word.now) (λ kind. word.now ≡ quirk_word kind) }
     {
@@ -70,7 +69,6 @@ impl Model for Quirks {
     ghost view = { λ q. q.lines.items };
 }
 
-/// The text before the first `mark` and the text after it, if there is one.
 fn parts(text: &str, mark: char) -> Option<(&str, &str)>
     requires { mark < 128 }
     ensures { MatchOption result (Lacks mark text.now) (λ x. HasParts mark text.now x.0.now x.1.now) }
@@ -78,7 +76,6 @@ fn parts(text: &str, mark: char) -> Option<(&str, &str)>
     text.split_once(mark)
 }
 
-/// The first line, and the text after it.
 fn first_line(text: &str) -> (&str, &str)
     requires { 0 < length text.now }
     ensures first { lines text.now ≡ result.0.now ∷ lines result.1.now }
@@ -88,7 +85,6 @@ fn first_line(text: &str) -> (&str, &str)
     parts(text, '\n').unwrap_or((text, ""))
 }
 
-/// Whether each byte is from 20 to 7E (hexadecimal).
 fn is_printable(text: &str) -> bool
     ensures { result ≡ list_all (is_in_range 0x20 0x7E) text.now }
 {
@@ -110,7 +106,6 @@ fn read_line(line: &str) -> Option<(QuirkKind, &str)>
 }
 
 impl QuirksLine {
-    /// Whether the line matches these identifiers.
     fn matches(&self, public: Option<&str>, system: Option<&str>) -> bool
         ensures { result ≡ line_matches self.now (option_map (λ x. x.now) public.entry) (option_map (λ x. x.now) system.entry) }
     {
@@ -124,14 +119,12 @@ impl QuirksLine {
     }
 }
 
-/// Whether the identifier is present and equals the text, ignoring ASCII case.
 fn is_same(id: Option<&str>, text: &str) -> bool
     ensures { result ≡ same_as (option_map (λ x. x.now) id.entry) text.now }
 {
     id.is_some_and(|id| id.eq_ignore_ascii_case(text))
 }
 
-/// Whether the identifier is present and begins with the text, ignoring ASCII case.
 fn begins(id: Option<&str>, text: &str) -> bool
     ensures { result ≡ begins_as (option_map (λ x. x.now) id.entry) text.now }
 {

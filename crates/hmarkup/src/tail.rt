@@ -2,7 +2,9 @@
 //! `#comment-start-state` to `#comment-end-bang-state`).
 
 ghost use Rattle.std.specs.Prelude.{◌≡◌};
-ghost use Rattle.hmarkup.specs.Vocabulary.{next_opening, next_ending, decided_text, held_ending_text, is_whole};
+ghost use Rattle.hmarkup.specs.Vocabulary.{closing, next_opening, next_ending, decided_text, held_ending_text, is_whole};
+
+use names::ErrorCode;
 
 /// The part of a closing mark that the text ends with: nothing, `-`, `--` or `--!`.
 #[derive(Clone, Copy, PartialEq, Eq)]
@@ -59,7 +61,18 @@ impl Ending {
         }
     }
 
-    /// The characters of the ending.
+    /// What a `>` is: its error, and whether it ends the comment, which has data or is empty.
+    pub fn closing(self, is_empty: bool) -> (Option<ErrorCode>, bool)
+        ensures { result ≡ closing self is_empty }
+    {
+        match self {
+            Ending::Dashes => (None, true),
+            Ending::Bang => (Some(ErrorCode::IncorrectlyClosedComment), true),
+            _ if is_empty => (Some(ErrorCode::AbruptClosingOfEmptyComment), true),
+            _ => (None, false),
+        }
+    }
+
     pub fn text(self) -> &'static str
         ensures { result.now ≡ held_ending_text self }
     {
@@ -73,7 +86,6 @@ impl Ending {
 }
 
 impl Opening {
-    /// Whether the text ends with a whole `<!--`.
     pub fn is_whole(self) -> bool
         ensures { result ≡ is_whole self }
     {

@@ -1,6 +1,0 @@
-use Rattle.hmarkup.proofs.Names.{arith}
-use Rattle.std.proofs.lemmas.Grind.{common_steps}
-use Rattle.hmarkup.proofs.comment.CommentWalk.keep.Goals as goal
-
-pub returns : goal.returns
-returns c = grind (arith, common_steps)
