@@ -1,21 +1,16 @@
 -- What stands whole in a run: a tag without attributes, or an attribute.
-use Rattle.htag.proofs.Vocabulary.{◌≡◌, ◌≤◌, ◌<◌, ℕ, zero, suc, ◌+◌, ◌-◌, Bool, true, false, not, ◌||◌, ◌&&◌, eqb, eqb_self, List, [], ◌∷◌, ◌++◌, length, take, drop, sym, refl, ap, ◌∙◌, subst, append_assoc, append-nil, arith, nat_tests, length-drop, length-take-le, take-append-drop, take_all, slice_index, list_all, prefix_len, ParseError, Placed, begins, characters, is_equals, is_greater, is_letter, is_quote, is_space, name_bytes, placed, is_plain_byte, all_weaker, all_placed, Entities, is_unquoted_byte, is_word_byte, ends_name, ends_unquoted, tag_errors, take_at, list_all-append, is_ascii, is_quoted_byte, IsPlainValue, is_no_reference}
+use Rattle.htag.proofs.Vocabulary.{◌≡◌, ◌≤◌, ◌<◌, ℕ, zero, suc, ◌+◌, ◌-◌, Bool, true, false, not, ◌||◌, ◌&&◌, eqb, eqb_self, List, [], ◌∷◌, ◌++◌, length, take, drop, sym, refl, ap, ◌∙◌, subst, append_assoc, append-nil, arith, nat_tests, length-drop, length-take-le, take-append-drop, take_all, slice_index, list_all, prefix_len, ParseError, Placed, begins, characters, is_equals, is_greater, is_letter, is_quote, is_space, name_bytes, placed, is_plain_byte, all_weaker, all_placed, Entities, is_unquoted_byte, is_word_byte, ends_name, ends_unquoted, tag_errors, take_at, list_all-append, is_ascii, is_quoted_byte, IsPlainValue, is_no_reference, length-append, nil_from_length, PlainValue}
 use Rattle.std.proofs.Math.Seq.{drop-cons}
-use Rattle.std.proofs.lemmas.List.{length-append, nil_from_length}
 use Rattle.std.proofs.lemmas.List.Sums.{prefix_len_is, prefix_len_passes, prefix_len_stops}
 use Rattle.std.specs.Char.{is_ascii_lowercase}
 use Rattle.htext.proofs.Runs.{placed-append}
 use Rattle.htag.specs.AtOnce.{IsBareName, IsTagName, IsNameBefore, IsPlainAttribute, IsWritten}
-use Rattle.htag.specs.declared.at_once.PlainValue.{PlainValue}
 use Rattle.htag.specs.Tag.{IsTagFront}
 use Rattle.htag.proofs.InRun.{counted_all, word_bytes, word_in_name, word_nulls, word_plain}
 
 -- what is before a byte, the byte, and what is after it
 split : (n : ℕ) (run : List ℕ) (c : ℕ) → n < length run → slice_index run n ≡ c → run ≡ take n run ++ c ∷ drop (suc n) run
 split n run c l is = sym (take-append-drop n run) ∙ ap (λ (x : List ℕ). take n run ++ x) (drop-cons run n 0 l ∙ ap (λ (d : ℕ). d ∷ drop (suc n) run) is)
-
-small_letter : (c : ℕ) → is_ascii_lowercase c ≡ true → is_letter c ≡ true
-small_letter c h = grind (arith, h, nat_tests)
 
 pub name_is : (run : List ℕ) (count : ℕ) → count ≡ prefix_len is_word_byte run → count ≤ length run → is_ascii_lowercase (slice_index run 0) ≡ true → 0 < count → IsTagName run count
 name_is [] count is l first some = absurd (omega (arith, l, some))
@@ -26,7 +21,7 @@ name_is (x ∷ xs) (suc n) is l first some = record {
   others = drop n xs;
   run_is = ap (λ (ys : List ℕ). x ∷ ys) (sym (take-append-drop n xs));
   count_is = omega (arith, length-take-le n xs (omega (arith, l)));
-  first = small_letter x first;
+  first = grind (arith, first, nat_tests);
   words = counted_all is_word_byte (x ∷ xs) (suc n) is;
 }
 
@@ -194,10 +189,10 @@ apart_is [] l space small other = absurd (omega (arith, l))
 apart_is (x ∷ []) l space small other = absurd (omega (arith, l))
 apart_is (x ∷ y ∷ rest) l space small other = none_is (x ∷ y ∷ rest) (x ∷ []) rest y refl (IsWritten.apart x refl refl refl space small other)
 
-pub attribute_is : (run : List ℕ) (n : ℕ) (value : PlainValue) → n ≡ prefix_len is_word_byte run → (n ≡ 0 → ⊥) → n ≤ length run → IsPlainValue (take (length run - n) (drop n run)) value → IsPlainAttribute run (record { name = n; value = value })
-attribute_is run n value is some few h = record {
+pub attribute_is : (run bytes : List ℕ) (n : ℕ) (value : PlainValue) → bytes ≡ run → n ≡ prefix_len is_word_byte bytes → (n ≡ 0 → ⊥) → n ≤ length bytes → IsPlainValue (take (length bytes - n) (drop n bytes)) value → IsPlainAttribute run n value
+attribute_is run bytes n value same is some few h = subst (λ (x : List ℕ). IsPlainAttribute x n value) same (record {
   some = omega (arith, some);
   within = few;
-  words = counted_all is_word_byte run n is;
-  value = subst (λ (x : List ℕ). IsPlainValue x value) (take_all (length run - n) (drop n run) (omega (arith, length-drop n run))) h;
-}
+  words = counted_all is_word_byte bytes n is;
+  value = subst (λ (x : List ℕ). IsPlainValue x value) (take_all (length bytes - n) (drop n bytes) (omega (arith, length-drop n bytes))) h;
+})

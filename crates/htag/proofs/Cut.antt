@@ -1,12 +1,11 @@
 -- A tag that the input's end cuts off.
-use Rattle.htag.proofs.Vocabulary.{◌≡◌, ℕ, Bool, true, false, not, ◌||◌, if◌then◌else◌, eqb, List, [], ◌∷◌, ◌++◌, map, sym, refl, ap, ◌∙◌, subst, append-nil, append_assoc, None, string_bytes, ParseError, Placed, Texts, begins, stops, all, past, is_space, is_equals, is_quote, null_errors, and_parts, Entities, TagWalk, pieces_text, value_bytes, EndsValue, Part, IsPart, AreParts, parts_text, part_errors_after, tag_errors, ends_name, ends_attribute_name, ends_unquoted, attribute_name_errors, value_errors, unquoted_errors, attribute_part, repeated, KeepsTag, EndsAttribute, names_after, HasName, IsInTag}
+use Rattle.htag.proofs.Vocabulary.{◌≡◌, ℕ, Bool, true, false, not, ◌||◌, if◌then◌else◌, eqb, List, [], ◌∷◌, ◌++◌, map, sym, refl, ap, ◌∙◌, subst, append-nil, append_assoc, None, string_bytes, ParseError, Placed, Texts, begins, stops, all, past, is_space, is_equals, is_quote, null_errors, and_parts, Entities, TagWalk, pieces_text, value_bytes, EndsValue, Part, IsPart, AreParts, parts_text, part_errors_after, tag_errors, ends_name, ends_attribute_name, ends_unquoted, attribute_name_errors, value_errors, unquoted_errors, attribute_part, repeated, KeepsTag, EndsAttribute, names_after, HasName, IsInTag, or-true}
 use Rattle.htag.specs.declared.tag_state.TagState.TheVariants as phase
 use Rattle.htag.specs.TagWalk.{IsCutTag}
 use Rattle.htag.proofs.Going.{held_in, past_is, attribute_told}
 use Rattle.htag.proofs.Parts.{part_errors, parts_text-append, parts_text-snoc, AreParts-append, AreParts-snoc}
 use Rattle.htag.proofs.Phases.{space_part, keeps_self}
 use Rattle.htag.proofs.Ahead.{name_read}
-use Rattle.std.proofs.Math.Bool.{or-true}
 use Rattle.htag.proofs.Values.{sign_stops}
 
 -- white space at the end

@@ -1,7 +1,5 @@
 -- The end of an attribute.
-use Rattle.htag.proofs.Vocabulary.{◌≡◌, ℕ, Bool, true, false, not, ◌||◌, List, [], ◌∷◌, ◌++◌, sym, ap, ◌∙◌, subst, transport, append-nil, Option, Some, is_some, slice_get, if◌then◌else◌, Attr, Texts, Grows, AreNames, error, TagWalk, AttrsMean, HasSeen, has_number, Attribute, Part, attributes_after, has_attribute, is_known, kept_attribute, repeated, named_by, names_after, NumbersMean, HasAttributes}
-use Rattle.std.proofs.Math.Bool.{or-true}
-use Rattle.names.specs.declared.error.ErrorCode.TheVariants.{DuplicateAttribute}
+use Rattle.htag.proofs.Vocabulary.{◌≡◌, ℕ, Bool, true, false, not, ◌||◌, List, [], ◌∷◌, ◌++◌, sym, ap, ◌∙◌, subst, transport, append-nil, Option, Some, is_some, slice_get, if◌then◌else◌, Attr, Texts, Grows, AreNames, error, TagWalk, AttrsMean, HasSeen, has_number, Attribute, Part, attributes_after, has_attribute, is_known, kept_attribute, repeated, named_by, names_after, NumbersMean, HasAttributes, or-true, DuplicateAttribute}
 use Rattle.htag.proofs.Naming.{numbers_kept, attrs_kept, attrs-snoc, known_number}
 use Rattle.htag.proofs.Parts.{names-snoc, attributes-snoc, any-snoc}
 

@@ -1,5 +1,5 @@
 -- What a reference is written with.
-use Rattle.htag.proofs.Vocabulary.{◌≡◌, ℕ, Bool, true, false, not, ◌||◌, eqb, List, [], ◌∷◌, ◌++◌, sym, refl, ap, ◌∙◌, subst, arith, nat_tests, codes, bytes_eq, list_all, to_ascii_lowercase, Placed, characters, lowered, all, is_alphanumeric, and_parts, and_both, Entities, Piece, IsReference, IsTable, longest_among, all-append, is_odd, all-characters}
+use Rattle.htag.proofs.Vocabulary.{◌≡◌, ℕ, Bool, true, false, not, ◌||◌, eqb, List, [], ◌∷◌, ◌++◌, sym, refl, ap, ◌∙◌, subst, arith, nat_tests, codes, bytes_eq, list_all, to_ascii_lowercase, Placed, characters, lowered, all, is_alphanumeric, and_parts, and_both, Entities, Piece, IsReference, IsTable, longest_among, all-append, is_odd, all-characters, bytes_eq-true}
 use Rattle.names.specs.Placed.{is_digit}
 use Rattle.charref.specs.declared.number.Base.{Base}
 use Rattle.charref.specs.declared.number.Base.TheVariants.{Decimal, Hexadecimal}
@@ -8,7 +8,6 @@ use Rattle.charref.specs.Number.{is_digit_of}
 use Rattle.charref.specs.Held.{IsHeldReference, IsSign}
 use Rattle.charref.specs.Reference.{is_hex_digit, is_key, is_key_name, is_empty_list, is_semicolon_if_any}
 use Rattle.charref.proofs.Naming.{is_key_of}
-use Rattle.names.proofs.TableLemmas.{bytes_eq-true}
 use Rattle.htag.proofs.Pieces.{all_imp, is_even, is_quiet, quiet_run, quiet_odd}
 
 quiet_digit : (base : Base) (c : ℕ) → is_digit_of base c ≡ true → is_quiet c ≡ true
@@ -81,11 +80,8 @@ lowered_even (p ∷ ps) cs is h =
     let one : not_odd p.ch ≡ true = grind (arith, nat_tests) in
     and_both (not_odd p.ch) (all not_odd ps) one (lowered_even ps (lowered ps) refl parts.1)
 
-amp_even : (amp : Placed) → amp.ch ≡ 38 → all not_odd (amp ∷ []) ≡ true
-amp_even amp is = all-characters not_odd (amp ∷ []) ∙ ap (λ (c : ℕ). list_all not_odd (c ∷ [])) is
-
 pub alone_even : (amp : Placed) → amp.ch ≡ 38 → is_even (amp ∷ [])
-alone_even amp is = even_of (amp ∷ []) (amp_even amp is)
+alone_even amp is = even_of (amp ∷ []) (all-characters not_odd (amp ∷ []) ∙ ap (λ (c : ℕ). list_all not_odd (c ∷ [])) is)
 
 passes : (test : ℕ → Bool) (text : List Placed) → all (λ c. not (not (test c))) text ≡ true → all test text ≡ true
 passes test [] h = refl

@@ -1,5 +1,5 @@
 -- A run of clean characters in a tag.
-use Rattle.htag.proofs.Vocabulary.{◌≡◌, ◌<◌, ◌≤◌, ℕ, ◌+◌, Bool, true, false, not, eqb, List, [], ◌∷◌, ◌++◌, length, take, drop, map, sym, refl, ap, ◌∙◌, subst, transport, append_assoc, append-nil, arith, Some, slice_get, length-drop, and_both, and_parts, slice_index, encode_utf8_all, flat_map, list_all, prefix_len, len_utf8, length-take-le, to_ascii_lowercase, string_bytes, nat_tests, ParseError, Placed, Texts, Grows, grows_not, grows_on, on_ok_weaker, is_equals, name_bytes, null_errors, placed, without_null, is_plain_byte, is_word_byte, all_weaker, all_placed, Entities, TagWalk, IsInTag, WholeOrNot, ends_attribute_name, ends_name, name_errors_here, is_ascii, chars, IsUtf8, IsCut, next_at, drop-drop, chars-nil}
+use Rattle.htag.proofs.Vocabulary.{◌≡◌, ◌<◌, ◌≤◌, ℕ, ◌+◌, Bool, true, false, not, eqb, List, [], ◌∷◌, ◌++◌, length, take, drop, map, sym, refl, ap, ◌∙◌, subst, transport, append_assoc, append-nil, arith, Some, slice_get, length-drop, and_both, and_parts, slice_index, encode_utf8_all, flat_map, list_all, prefix_len, len_utf8, length-take-le, to_ascii_lowercase, string_bytes, nat_tests, ParseError, Placed, Texts, Grows, grows_not, grows_on, on_ok_weaker, is_equals, name_bytes, null_errors, placed, without_null, is_plain_byte, is_word_byte, all_weaker, all_placed, Entities, TagWalk, IsInTag, WholeOrNot, ends_name, name_errors_here, is_ascii, chars, IsUtf8, IsCut, next_at, drop-drop, chars-nil, nil_from_length, len_utf8_ascii}
 use Rattle.htext.proofs.Runs.{counted, plain_bytes}
 use Rattle.htext.proofs.Wide.{chars_cut, cut_more, first_char, first_cut, has_characters, placed_more}
 -- under the names by which the crates above cite them
@@ -10,8 +10,6 @@ use Rattle.names.specs.declared.refusal.Refusal.{Refusal}
 use Rattle.names.specs.declared.refusal.Refusal.TheVariants.{Memory}
 use Rattle.std.specs.Prelude.{Result, Ok, Err}
 use Rattle.htag.specs.Run.{EndsOrNot, TakesFront}
-use Rattle.std.proofs.lemmas.List.{nil_from_length}
-use Rattle.std.proofs.lemmas.Str.{len_utf8_ascii}
 use Rattle.htag.proofs.Ascii.{ascii_chars, ascii_cut, ascii_taken}
 use Rattle.htag.proofs.Keeping.{looks_ahead}
 use Rattle.htag.proofs.Names.{name_grows, no_nulls}
@@ -29,9 +27,6 @@ module _ (c : ℕ) (h : is_word_byte c ≡ true) where
 
   pub word_in_name : not (ends_name c) ≡ true
   word_in_name = grind (arith, nat_tests)
-
-  pub word_in_attribute : not (ends_attribute_name c) ≡ true
-  word_in_attribute = grind (arith, nat_tests)
 
   pub word_no_equals : is_equals c ≡ false
   word_no_equals = grind (arith, nat_tests)

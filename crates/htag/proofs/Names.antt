@@ -61,9 +61,3 @@ module _ (table : Entities) (names : Texts) (walk : TagWalk) (body ahead : List 
       (named ∙ ap (λ (x : List ℕ). x ++ name_bytes fed) h.name_is ∙ sym (name_bytes-append h.name fed)) (later_is ∙ ap (λ (x : List ParseError). x ++ null_errors fed) plain ∙ sym (null_errors-append h.name fed))
       (subst (HasAttributes names new) nothing.0 (holds_same names walk new h.parts seen attrs any h.has_attributes))
       (subst (λ (x : TagState). IsPast x false) (sym (same ∙ in_name)) tt) (subst (λ (x : TagState). HasPhase x table new [] [] []) (sym (same ∙ in_name)) (refl, refl, refl))
-
-  -- it ends before white space, `/` or `>`
-  pub name_ends : (new : TagWalk) → new.name ≡ walk.name → new.seen ≡ walk.seen → new.attrs ≡ walk.attrs → new.any ≡ walk.any → new.phase ≡ phase.BeforeAttributeName → begins ends_name ahead ≡ true → IsInTag table names new body ahead errors
-  name_ends new named seen attrs any next ends =
-      named_alone table names new h.name body ahead errors whole h.first h.passes (ap string_bytes named ∙ h.name_is) plain (subst (HasAttributes names new) nothing.0 (holds_same names walk new h.parts seen attrs any h.has_attributes))
-      (subst (λ (x : TagState). IsPast x (begins ends_name ahead)) (sym next) ends) (subst (λ (x : TagState). HasPhase x table new [] [] []) (sym next) (refl, refl))

@@ -1,12 +1,6 @@
 -- Values that are read at once: characters that stand for themselves, and references without errors.
-use Rattle.htag.proofs.Vocabulary.{◌≡◌, ℕ, suc, ◌+◌, ◌-◌, ◌≤◌, ◌<◌, Bool, true, false, not, ◌&&◌, eqb, List, [], ◌∷◌, ◌++◌, length, take, drop, sym, refl, ap, ◌∙◌, subst, transport, append_assoc, append-nil, arith, nat_tests, and_parts, None, encode_utf8_all, flat_map-append, list_all, prefix_len, slice_index, all_weaker, take-append-drop, length-take-le, take_all, ParseError, Placed, all, error_if, placed, all_placed, Entities, Piece, IsReference, IsRead, characters_of, errors_of, Reference, AreValue, IsValuePiece, pieces_text, plain_pieces, value_bytes, value_errors, is_ascii, chars, IsUtf8, drop-drop, take_at, list_all-append, chars-nil, is_clean, is_quoted_byte, IsCut, clean_rest, IsQuietFront, is_no_reference}
-use Rattle.std.specs.Char.{len_utf8}
-use Rattle.std.proofs.lemmas.Bool.{and_from}
-use Rattle.std.proofs.lemmas.List.{drop_at, length-append}
-use Rattle.std.proofs.lemmas.Str.{encodes-chars}
+use Rattle.htag.proofs.Vocabulary.{◌≡◌, ℕ, suc, ◌+◌, ◌-◌, ◌≤◌, ◌<◌, Bool, true, false, not, ◌&&◌, eqb, List, [], ◌∷◌, ◌++◌, length, take, drop, sym, refl, ap, ◌∙◌, subst, transport, append_assoc, append-nil, arith, nat_tests, and_parts, None, encode_utf8_all, flat_map-append, list_all, prefix_len, slice_index, all_weaker, take-append-drop, length-take-le, take_all, ParseError, Placed, all, error_if, placed, all_placed, Entities, Piece, IsReference, IsRead, characters_of, errors_of, Reference, AreValue, IsValuePiece, pieces_text, plain_pieces, value_bytes, value_errors, is_ascii, chars, IsUtf8, drop-drop, take_at, list_all-append, chars-nil, is_clean, is_quoted_byte, IsCut, clean_rest, IsQuietFront, is_no_reference, len_utf8, and_from, drop_at, length-append, encodes-chars, MissingSemicolonAfterCharacterReference, front_of_test}
 use Rattle.charref.specs.Reference.{ends_in_semicolon, is_kept_as_text, named, kept, unknown, decimal, hexadecimal, no_digits, alone}
-use Rattle.names.specs.declared.error.ErrorCode.TheVariants.{MissingSemicolonAfterCharacterReference}
-use Rattle.htext.proofs.Clean.{front_of_test}
 use Rattle.htext.proofs.Runs.{take_more}
 use Rattle.htext.proofs.Wide.{cut_more, placed_cut, placed_more}
 use Rattle.htag.proofs.Ascii.{ascii_chars, ascii_cut, ascii_placed, ascii_taken}

@@ -2,7 +2,6 @@
 use Rattle.htag.proofs.Vocabulary.{◌≡◌, ℕ, zero, suc, ◌<◌, ◌≤◌, true, false, not, eqb, List, [], ◌∷◌, ◌++◌, length, take, get_or, sym, refl, ap, ◌∙◌, arith, take_all, nat_tests, Seen, has_number, HasSeen}
 use Rattle.std.proofs.Common.{replicate}
 use Rattle.std.proofs.lemmas.List.{get_or_past}
-use Rattle.std.specs.Prelude.{slice_set}
 use Rattle.htag.specs.Seen.{stamp}
 
 zeros : (k m : ℕ) → let none : ℕ = 0 in get_or (replicate k none) m none ≡ none
@@ -18,14 +17,6 @@ grown (x ∷ xs) k (suc m) = grown xs k m
 -- stamps for more names are none
 pub resized : (xs ys : List ℕ) (n k : ℕ) → length xs ≤ n → ys ≡ take n xs ++ replicate k 0 → (m : ℕ) → get_or ys m 0 ≡ get_or xs m 0
 resized xs ys n k h is m = ap (λ (x : List ℕ). get_or x m 0) (is ∙ ap (λ (x : List ℕ). x ++ replicate k 0) (take_all n xs h)) ∙ grown xs k m
-
--- a tag's stamp is not after the tag
-pub stamped : (xs : List ℕ) (n tag : ℕ) → ((m : ℕ) → get_or xs m 0 ≤ tag) → (m : ℕ) → get_or (slice_set xs n tag) m 0 ≤ tag
-stamped [] n tag h m = h m
-stamped (x ∷ xs) zero tag h zero = omega arith
-stamped (x ∷ xs) zero tag h (suc m) = h (suc m)
-stamped (x ∷ xs) (suc n) tag h zero = h zero
-stamped (x ∷ xs) (suc n) tag h (suc m) = stamped xs n tag (λ k. h (suc k)) m
 
 -- a name more
 pub marked : (old new : Seen) (n : ℕ) (numbers : List ℕ) → HasSeen old numbers → new.tag ≡ old.tag → stamp new n ≡ old.tag → ((m : ℕ) → (m ≡ n → ⊥) → stamp new m ≡ stamp old m) → HasSeen new (n ∷ numbers)

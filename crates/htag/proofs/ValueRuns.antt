@@ -1,7 +1,5 @@
 -- A run of characters that stand for themselves in a value: taken at once, they are taken one by one.
-use Rattle.htag.proofs.Vocabulary.{◌≡◌, ◌≤◌, ◌<◌, ℕ, Bool, true, false, not, eqb, List, [], ◌++◌, take, drop, sym, ap, ◌∙◌, subst, append-nil, arith, nat_tests, list_all, prefix_len, string_bytes, ParseError, Placed, Texts, all, placed, all_placed, all_weaker, Entities, TagState, TagWalk, IsInTag, IsInValue, KeepsTag, ends_unquoted, is_unquoted_byte, pieces_errors, plain_pieces, chars, IsUtf8, is_clean, is_quoted_byte, IsCut, is_no_reference, next_at}
-use Rattle.htext.proofs.Clean.{front_of_test}
-use Rattle.htag.specs.Run.{IsValueRun}
+use Rattle.htag.proofs.Vocabulary.{◌≡◌, ◌≤◌, ◌<◌, ℕ, Bool, true, false, not, eqb, List, [], ◌++◌, take, drop, sym, ap, ◌∙◌, subst, append-nil, arith, nat_tests, list_all, prefix_len, string_bytes, ParseError, Placed, Texts, all, placed, all_placed, all_weaker, Entities, TagState, TagWalk, IsInTag, IsInValue, KeepsTag, ends_unquoted, is_unquoted_byte, pieces_errors, plain_pieces, chars, IsUtf8, is_clean, is_quoted_byte, IsCut, is_no_reference, next_at, front_of_test, IsValueRun}
 use Rattle.htag.specs.declared.piece.Pending.TheVariants as reading
 use Rattle.htag.proofs.Even.{not_odd}
 use Rattle.htag.proofs.Going.{quoted_goes_on, unquoted_goes_on}

@@ -26,23 +26,28 @@ pub use Rattle.names.specs.Names.{Texts, Grows, AreNames}
 pub use Rattle.names.specs.Placed.{characters, all, is_alphanumeric, error_if, null_errors, without_null, begins, place, is_equals, name_bytes, lowered, past, is_space, error, is_letter, stops, is_greater, placed, is_quote}
 pub use Rattle.names.specs.declared.attr.Attr.{Attr}
 pub use Rattle.names.specs.declared.error.ErrorCode.{ErrorCode}
-pub use Rattle.names.specs.declared.error.ErrorCode.TheVariants.{UnexpectedCharacterInUnquotedAttributeValue, UnexpectedEqualsSignBeforeAttributeName, MissingSemicolonAfterCharacterReference, UnknownNamedCharacterReference, MissingWhitespaceBetweenAttributes}
+pub use Rattle.names.specs.declared.error.ErrorCode.TheVariants.{UnexpectedCharacterInUnquotedAttributeValue, UnexpectedEqualsSignBeforeAttributeName, MissingSemicolonAfterCharacterReference, UnknownNamedCharacterReference, MissingWhitespaceBetweenAttributes, DuplicateAttribute}
 pub use Rattle.names.specs.declared.error.ParseError.{ParseError}
 pub use Rattle.names.specs.declared.placed.Placed.{Placed}
-pub use Rattle.std.proofs.Common.{◌≡◌, ℕ, Bool, true, false, not, ◌&&◌, ◌||◌, eqb, List, [], ◌∷◌, ◌++◌, sym, refl, ap, ◌∙◌, subst, append_assoc, append-nil, arith, drop, zero, suc, ◌-◌, ◌≤◌, true≢false, length, take, map, slice_get, Option, Some, None, bytes_eq, is_some, Vec, Global, ◌+◌, ◌<◌, get_or}
+pub use Rattle.std.proofs.Common.{◌≡◌, ℕ, Bool, true, false, not, ◌&&◌, ◌||◌, eqb, List, [], ◌∷◌, ◌++◌, sym, refl, ap, ◌∙◌, subst, append_assoc, append-nil, arith, drop, zero, suc, ◌-◌, ◌≤◌, true≢false, length, take, map, slice_get, Option, Some, None, bytes_eq, is_some, Vec, Global, ◌+◌, ◌<◌, get_or, inl, inr, rules}
 pub use Rattle.std.proofs.Math.Path.{transport}
-pub use Rattle.std.proofs.lemmas.Bool.{eqb-true}
+pub use Rattle.std.proofs.lemmas.Bool.{eqb-true, and_from}
 pub use Rattle.std.proofs.lemmas.Bool.Decides.{nat_tests}
 pub use Rattle.std.proofs.lemmas.Grind.{flat_map-append}
-pub use Rattle.std.proofs.lemmas.List.{take-append-drop, length-drop, take_all, length-take-le, drop-drop, take_at}
+pub use Rattle.std.proofs.lemmas.List.{take-append-drop, length-drop, take_all, length-take-le, drop-drop, take_at, length-append, drop_at, nil_from_length}
 pub use Rattle.std.proofs.lemmas.Result.{on_ok_weaker, MatchResult-weaker, err_from_is_err_and}
-pub use Rattle.std.proofs.lemmas.Str.{encodes-append, chars-nil}
+pub use Rattle.std.proofs.lemmas.Str.{encodes-append, chars-nil, encodes-chars, len_utf8_ascii}
 pub use Rattle.std.specs.Char.{encode_utf8, to_ascii_lowercase, len_utf8, is_ascii}
 pub use Rattle.std.specs.List.{flat_map, list_all, prefix_len}
-pub use Rattle.std.specs.Prelude.{encode_utf8_all, if◌then◌else◌, option_to_list, codes, slice_index}
+pub use Rattle.std.specs.Prelude.{encode_utf8_all, if◌then◌else◌, option_to_list, codes, slice_index, Ok}
 pub use Rattle.std.specs.String.{string_bytes}
-pub use Rattle.htag.specs.AtOnce.{IsPlainValue, IsQuietFront, is_no_reference}
-pub use Rattle.htag.specs.Run.{next_at}
-pub use Rattle.htext.proofs.Clean.{clean_rest}
+pub use Rattle.htag.specs.AtOnce.{IsPlainValue, IsQuietFront, is_no_reference, IsPlainAttribute, IsWritten}
+pub use Rattle.htag.specs.Run.{next_at, IsValueRun, TakesFront}
+pub use Rattle.htext.proofs.Clean.{clean_rest, front_of_test}
 pub use Rattle.std.proofs.lemmas.List.Folds.{list_all-append}
-pub use Rattle.std.specs.Str.{IsUtf8, chars}
+pub use Rattle.std.specs.Str.{IsUtf8, chars, IsCharBoundary}
+pub use Rattle.names.proofs.TableLemmas.{bytes_eq-true}
+pub use Rattle.htext.proofs.Wide.{has_characters}
+pub use Rattle.htag.specs.declared.at_once.PlainValue.{PlainValue}
+pub use Rattle.std.proofs.Math.Bool.{or-true}
+pub use Rattle.std.proofs.lemmas.List.Sums.{prefix_len_stops}

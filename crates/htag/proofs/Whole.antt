@@ -1,23 +1,17 @@
 -- An attribute that stands whole in a run.
-use Rattle.htag.proofs.Vocabulary.{◌≡◌, ◌≤◌, ◌<◌, ℕ, ◌+◌, ◌-◌, Bool, true, false, not, ◌||◌, eqb, List, [], ◌∷◌, ◌++◌, length, take, drop, sym, refl, ap, ◌∙◌, subst, transport, append_assoc, append-nil, arith, nat_tests, and_parts, Some, get_or, length-take-le, take-append-drop, take_all, flat_map, list_all, len_utf8, ParseError, Placed, MissingWhitespaceBetweenAttributes, UnexpectedEqualsSignBeforeAttributeName, Texts, all, begins, stops, characters, error_if, is_equals, is_greater, is_quote, is_space, past, place, placed, all_weaker, all_placed, Entities, Piece, TagWalk, AreValue, pieces_text, value_bytes, IsInTag, is_unquoted_byte, is_word_byte, Attribute, IsPart, Part, attribute_name_errors, attribute_part, ends_attribute_name, ends_name, ends_unquoted, name_errors_here, names_after, repeated, unquoted_errors, value_errors, take_at, drop-drop, list_all-append, chars-nil, is_ascii, chars, IsUtf8, is_clean, IsCut, clean_rest, IsQuietFront, next_at}
+use Rattle.htag.proofs.Vocabulary.{◌≡◌, ◌<◌, ℕ, ◌+◌, ◌-◌, Bool, true, false, not, ◌||◌, eqb, List, [], ◌∷◌, ◌++◌, length, take, drop, sym, refl, ap, ◌∙◌, subst, transport, append_assoc, append-nil, arith, nat_tests, and_parts, Some, get_or, length-take-le, take-append-drop, take_all, flat_map, list_all, len_utf8, ParseError, Placed, MissingWhitespaceBetweenAttributes, UnexpectedEqualsSignBeforeAttributeName, Texts, all, begins, stops, characters, error_if, is_equals, is_greater, is_quote, is_space, past, place, placed, all_weaker, all_placed, Entities, Piece, TagWalk, AreValue, pieces_text, value_bytes, IsInTag, is_unquoted_byte, is_word_byte, Attribute, IsPart, Part, attribute_name_errors, attribute_part, ends_attribute_name, ends_name, ends_unquoted, name_errors_here, names_after, repeated, unquoted_errors, value_errors, take_at, drop-drop, list_all-append, chars-nil, is_ascii, chars, IsUtf8, is_clean, IsCut, clean_rest, IsQuietFront, next_at, and_from, length-append, drop_at, IsCharBoundary, has_characters, IsPlainAttribute, IsWritten, PlainValue}
 use Rattle.std.proofs.Math.Seq.{get_or-append_seam, drop-length}
-use Rattle.std.proofs.lemmas.Bool.{and_from}
-use Rattle.std.proofs.lemmas.List.{length-append, drop_at}
 use Rattle.std.proofs.lemmas.Str.{chars-append, chars-IsAscii, encodes-chars, IsCharBoundary-before_ascii, IsCharBoundary-from_drop, IsUtf8-take, IsUtf8-drop}
 use Rattle.std.specs.List.{slice_range}
-use Rattle.std.specs.Str.{IsCharBoundary}
 use Rattle.htext.proofs.Parts.{placed-append as placed_text}
-use Rattle.htext.proofs.Wide.{has_characters}
-use Rattle.htag.specs.AtOnce.{IsPlainAttribute, IsWritten}
 use Rattle.htag.specs.Steps.{EndsAs}
-use Rattle.htag.specs.declared.at_once.PlainAttribute.{PlainAttribute}
 use Rattle.htag.specs.declared.tag_state.TagState.TheVariants as phase
 use Rattle.htag.specs.Tag.{IsAttributeName}
 use Rattle.htag.proofs.Ascii.{ascii_chars, ascii_placed, cut_at, each_ascii}
 use Rattle.htag.proofs.Even.{even_of, not_odd}
 use Rattle.htag.proofs.Ahead.{spaces_follow}
 use Rattle.htag.proofs.Going.{held_in, past_is, body_then, part_read}
-use Rattle.htag.proofs.InRun.{next_then, word_ascii, word_bytes, word_errors, word_in_attribute, word_in_name, word_no_equals}
+use Rattle.htag.proofs.InRun.{next_then, word_ascii, word_bytes, word_errors, word_in_name, word_no_equals}
 use Rattle.htag.proofs.Parts.{holds_same, past-space}
 use Rattle.htag.proofs.QuietValues.{all_chars}
 use Rattle.htag.proofs.Values.{space_ends}
@@ -48,18 +42,12 @@ none_follows spaces c (p ∷ ps) are other is =
 ends_attribute : (c : ℕ) → (eqb c 47 || is_greater c) ≡ true → (ends_attribute_name c ≡ true) × (not (is_space c || is_equals c) ≡ true)
 ends_attribute c h = (grind (arith, h, nat_tests), grind (arith, h, nat_tests))
 
-unquoted_begins : (c : ℕ) → is_unquoted_byte c ≡ true → not (ends_unquoted c || is_quote c) ≡ true
-unquoted_begins c h = grind (arith, h, nat_tests)
-
 pub unquoted_inside : (c : ℕ) → is_unquoted_byte c ≡ true → not (ends_unquoted c) ≡ true
 unquoted_inside c h = grind (arith, h, nat_tests)
 
 first_passes : (test other : ℕ → Bool) → ((c : ℕ) → test c ≡ true → other c ≡ true) → (at : ℕ) (xs : List ℕ) → 0 < length xs → list_all test xs ≡ true → begins other (placed at xs) ≡ true
 first_passes test other weaker at [] some h = absurd (omega (arith, some))
 first_passes test other weaker at (x ∷ xs) some h = weaker x (and_parts (test x) (list_all test xs) h).0
-
-unquoted_long : (byte : ℕ) → 128 ≤ byte → is_unquoted_byte byte ≡ true
-unquoted_long byte l = grind (arith, l, nat_tests)
 
 pub unquoted_even : (c : ℕ) → is_unquoted_byte c ≡ true → not_odd c ≡ true
 unquoted_even c h = grind (arith, h, nat_tests)
@@ -83,9 +71,9 @@ even_quiet (p ∷ ps) none even =
     let texts = all_both not_odd p.text (pieces_text ps) even in
     ap (λ (x : List ParseError). (x ++ p.errors) ++ unquoted_errors ps) (even_of p.text texts.0) ∙ ap (λ (x : List ParseError). x ++ unquoted_errors ps) errors.0 ∙ even_quiet ps errors.1 texts.1
 
-module _ (run : List ℕ) (found : PlainAttribute) (found_is : IsPlainAttribute run found) (u : IsUtf8 run) where
+module _ (run : List ℕ) (size : ℕ) (found : PlainValue) (found_is : IsPlainAttribute run size found) (u : IsUtf8 run) where
   abbrev name : List ℕ
-  name = take found.name run
+  name = take size run
 
   abbrev before : List ℕ
   before = found_is.value.before
@@ -103,17 +91,17 @@ module _ (run : List ℕ) (found : PlainAttribute) (found_is : IsPlainAttribute 
   far = found_is.value.after ++ found_is.value.next ∷ found_is.value.others
 
   abbrev pub from : ℕ
-  from = found.name + found.value.before
+  from = size + found.before
 
   abbrev pub to : ℕ
-  to = found.name + found.value.before + found.value.value
+  to = size + found.before + found.value
 
   abbrev pub end : ℕ
-  end = found.name + found.value.before + found.value.value + found.value.after
+  end = size + found.before + found.value + found.after
 
   -- all but the value is ASCII
-  name_ascii : list_all is_ascii (take found.name run) ≡ true
-  name_ascii = all_weaker is_word_byte is_ascii word_ascii (take found.name run) found_is.words
+  name_ascii : list_all is_ascii (take size run) ≡ true
+  name_ascii = all_weaker is_word_byte is_ascii word_ascii (take size run) found_is.words
 
   outside : (list_all is_ascii found_is.value.before ≡ true) × (list_all is_ascii found_is.value.after ≡ true) × (is_ascii found_is.value.next ≡ true)
   outside = by found_is.value.written where
@@ -136,7 +124,7 @@ module _ (run : List ℕ) (found : PlainAttribute) (found_is : IsPlainAttribute 
 
   -- what is left after each part
   whole : run ≡ name ++ (before ++ (value ++ far))
-  whole = sym (take-append-drop found.name run) ∙ ap (λ (x : List ℕ). name ++ x) found_is.value.run_is
+  whole = sym (take-append-drop size run) ∙ ap (λ (x : List ℕ). name ++ x) found_is.value.run_is
 
   past_name : IsUtf8 (before ++ (value ++ far))
   past_name = (ascii_chars name (before ++ (value ++ far)) name_ascii (subst IsUtf8 whole u)).0
@@ -145,16 +133,16 @@ module _ (run : List ℕ) (found : PlainAttribute) (found_is : IsPlainAttribute 
   past_sign = (ascii_chars before (value ++ far) outside.0 past_name).0
 
   long : length run ≡ end + length (next ∷ found_is.value.others)
-  long = omega (arith, ap length whole, length-append name (before ++ (value ++ far)), length-append before (value ++ far), length-append value far, length-append after (next ∷ found_is.value.others), length-take-le found.name run found_is.within, found_is.value.before_is, found_is.value.value_is, found_is.value.after_is)
+  long = omega (arith, ap length whole, length-append name (before ++ (value ++ far)), length-append before (value ++ far), length-append value far, length-append after (next ∷ found_is.value.others), length-take-le size run found_is.within, found_is.value.before_is, found_is.value.value_is, found_is.value.after_is)
 
-  left_value : drop (found.name + found.value.before) run ≡ value ++ far
-  left_value = sym (drop-drop found.value.before found.name run) ∙ ap (drop found.value.before) found_is.value.run_is ∙ drop_at before (value ++ far) found.value.before (sym found_is.value.before_is)
+  left_value : drop (size + found.before) run ≡ value ++ far
+  left_value = sym (drop-drop found.before size run) ∙ ap (drop found.before) found_is.value.run_is ∙ drop_at before (value ++ far) found.before (sym found_is.value.before_is)
 
-  left_far : drop (found.name + found.value.before + found.value.value) run ≡ far
-  left_far = sym (drop-drop found.value.value from run) ∙ ap (drop found.value.value) left_value ∙ drop_at value far found.value.value (sym found_is.value.value_is)
+  left_far : drop (size + found.before + found.value) run ≡ far
+  left_far = sym (drop-drop found.value from run) ∙ ap (drop found.value) left_value ∙ drop_at value far found.value (sym found_is.value.value_is)
 
-  left_next : drop (found.name + found.value.before + found.value.value + found.value.after) run ≡ found_is.value.next ∷ found_is.value.others
-  left_next = sym (drop-drop found.value.after to run) ∙ ap (drop found.value.after) left_far ∙ drop_at after (next ∷ found_is.value.others) found.value.after (sym found_is.value.after_is)
+  left_next : drop (size + found.before + found.value + found.after) run ≡ found_is.value.next ∷ found_is.value.others
+  left_next = sym (drop-drop found.after to run) ∙ ap (drop found.after) left_far ∙ drop_at after (next ∷ found_is.value.others) found.after (sym found_is.value.after_is)
 
   far_head : (x : ℕ) × (xs : List ℕ) × (far ≡ x ∷ xs) × (x < 128)
   far_head = by after outside.1 where
@@ -177,37 +165,37 @@ module _ (run : List ℕ) (found : PlainAttribute) (found_is : IsPlainAttribute 
   next_utf8 : IsUtf8 (found_is.value.next ∷ found_is.value.others)
   next_utf8 = (ascii_chars after (next ∷ found_is.value.others) outside.1 far_utf8).0
 
-  pub name_edge : IsCharBoundary run found.name
-  name_edge = IsCharBoundary-from_drop run found.name found_is.within (subst IsUtf8 (sym found_is.value.run_is) past_name)
+  pub name_edge : IsCharBoundary run size
+  name_edge = IsCharBoundary-from_drop run size found_is.within (subst IsUtf8 (sym found_is.value.run_is) past_name)
 
-  pub from_edge : IsCharBoundary run (found.name + found.value.before)
+  pub from_edge : IsCharBoundary run (size + found.before)
   from_edge = IsCharBoundary-from_drop run from (omega (arith, long)) (subst IsUtf8 (sym left_value) past_sign)
 
-  pub to_edge : IsCharBoundary run (found.name + found.value.before + found.value.value)
+  pub to_edge : IsCharBoundary run (size + found.before + found.value)
   to_edge = IsCharBoundary-from_drop run to (omega (arith, long)) (subst IsUtf8 (sym left_far) far_utf8)
 
-  pub end_cut : IsCut (found.name + found.value.before + found.value.value + found.value.after) run
+  pub end_cut : IsCut (size + found.before + found.value + found.after) run
   end_cut = cut_at end run u (IsCharBoundary-from_drop run end (omega (arith, long)) (subst IsUtf8 (sym left_next) next_utf8))
 
-  pub written_is : slice_range run (found.name + found.value.before) (found.name + found.value.before + found.value.value) ≡ found_is.value.value
+  pub written_is : slice_range run (size + found.before) (size + found.before + found.value) ≡ found_is.value.value
   written_is =
-      let size : to - from ≡ found.value.value = omega arith in
-      ap (λ (n : ℕ). take n (drop from run)) size ∙ ap (take found.value.value) left_value ∙ take_at value far found.value.value (sym found_is.value.value_is)
+      let size : to - from ≡ found.value = omega arith in
+      ap (λ (n : ℕ). take n (drop from run)) size ∙ ap (take found.value) left_value ∙ take_at value far found.value (sym found_is.value.value_is)
 
   pub written_clean : list_all is_clean (chars run) ≡ true → list_all is_clean (chars found_is.value.value) ≡ true
   written_clean clean =
       (and_parts (list_all is_clean (chars value)) (list_all is_clean (chars far))
       (sym (ap (list_all is_clean) (chars-append value far value_utf8) ∙ list_all-append is_clean (chars value) (chars far)) ∙ ap (λ (x : List ℕ). list_all is_clean (chars x)) (sym left_value) ∙ (clean_rest from run (cut_at from run u from_edge) clean).1)).0
 
-  taken : take (found.name + found.value.before + found.value.value + found.value.after) run ≡ name ++ (before ++ (value ++ after))
+  taken : take (size + found.before + found.value + found.after) run ≡ name ++ (before ++ (value ++ after))
   taken =
       let all : run ≡ (name ++ (before ++ (value ++ after))) ++ next ∷ found_is.value.others =
       whole ∙ ap (λ (x : List ℕ). name ++ (before ++ x)) (sym (append_assoc value after (next ∷ found_is.value.others))) ∙ ap (λ (x : List ℕ). name ++ x) (sym (append_assoc before (value ++ after) (next ∷ found_is.value.others)))
       ∙ sym (append_assoc name (before ++ (value ++ after)) (next ∷ found_is.value.others)) in
       ap (take end) all ∙ take_at (name ++ (before ++ (value ++ after))) (next ∷ found_is.value.others) end
-      (omega (arith, length-append name (before ++ (value ++ after)), length-append before (value ++ after), length-append value after, length-take-le found.name run found_is.within, found_is.value.before_is, found_is.value.value_is, found_is.value.after_is))
+      (omega (arith, length-append name (before ++ (value ++ after)), length-append before (value ++ after), length-append value after, length-take-le size run found_is.within, found_is.value.before_is, found_is.value.value_is, found_is.value.after_is))
 
-  taken_chars : chars (take (found.name + found.value.before + found.value.value + found.value.after) run) ≡ name ++ (before ++ (chars value ++ after))
+  taken_chars : chars (take (size + found.before + found.value + found.after) run) ≡ name ++ (before ++ (chars value ++ after))
   taken_chars =
       let a = ascii_chars name (before ++ (value ++ after)) name_ascii (subst IsUtf8 taken end_cut.front) in
       let b = ascii_chars before (value ++ after) outside.0 a.0 in
@@ -238,7 +226,7 @@ module _ (run : List ℕ) (found : PlainAttribute) (found_is : IsPlainAttribute 
     -- THE NAME
 
     name_some : 0 < length name
-    name_some = omega (arith, found_is.some, length-take-le found.name run found_is.within)
+    name_some = omega (arith, found_is.some, length-take-le size run found_is.within)
 
     named : (attribute_name_errors (placed at name) ≡ []) × (all (λ c. not (ends_attribute_name c)) (drop 1 (placed at name)) ≡ true) × (place 0 (placed at name) ≡ at)
     named = by name name_some found_is.words where
@@ -247,7 +235,7 @@ module _ (run : List ℕ) (found : PlainAttribute) (found_is : IsPlainAttribute 
       by (x ∷ xs) some words =
           let k = and_parts (is_word_byte x) (list_all is_word_byte xs) words in (
             ap (λ (b : Bool). error_if b UnexpectedEqualsSignBeforeAttributeName at ++ flat_map name_errors_here (placed at (x ∷ xs))) (word_no_equals x k.0) ∙ word_errors at (x ∷ xs) words,
-            all_placed (λ c. not (ends_attribute_name c)) (at + len_utf8 x) xs (all_weaker is_word_byte (λ c. not (ends_attribute_name c)) word_in_attribute xs k.1),
+            all_placed (λ c. not (ends_attribute_name c)) (at + len_utf8 x) xs (all_weaker is_word_byte (λ c. not (ends_attribute_name c)) (λ c h. grind (arith, h, nat_tests)) xs k.1),
             refl,
           )
 
@@ -256,7 +244,7 @@ module _ (run : List ℕ) (found : PlainAttribute) (found_is : IsPlainAttribute 
 
     -- THE PART, with this value
 
-    module _ (table : Entities) (bytes : List ℕ) (quiet : IsQuietFront table found_is.value.value (length found_is.value.value) [] bytes) (plain : found.value.plain ≡ true → bytes ≡ found_is.value.value) where
+    module _ (table : Entities) (bytes : List ℕ) (quiet : IsQuietFront table found_is.value.value (length found_is.value.value) [] bytes) (plain : found.plain ≡ true → bytes ≡ found_is.value.value) where
       abbrev pieces : List Piece
       pieces = (quiet.reads (at + length name + length before)).pieces
 
@@ -273,10 +261,10 @@ module _ (run : List ℕ) (found : PlainAttribute) (found_is : IsPlainAttribute 
       none = (quiet.reads in_value).quiet
 
       abbrev pub attribute : Attribute
-      attribute = record { name = take found.name run; value = bytes; at = at }
+      attribute = record { name = take size run; value = bytes; at = at }
 
       abbrev whole_text : List Placed
-      whole_text = placed at (chars (take (found.name + found.value.before + found.value.value + found.value.after) run))
+      whole_text = placed at (chars (take (size + found.before + found.value + found.after) run))
 
       -- by what follows the name
       part_is : (own others : List Placed) (given : List ℕ) (errors : List ParseError) → own ≡ placed at name ++ others → bytes ≡ given → errors ≡ [] → record { text = own; attribute = Some attribute; errors = [] } ≡ attribute_part (placed at name) others given errors
@@ -315,11 +303,11 @@ module _ (run : List ℕ) (found : PlainAttribute) (found_is : IsPlainAttribute 
           ∙ ap (λ (b : Bool). error_if (not b) MissingWhitespaceBetweenAttributes (place last rest)) (follows ends_name next rest ends follow))))
       front_here (IsWritten.unquoted before_is some inside after_is ends) = all_own (λ last rest follow.
           let sign : List Placed = record { ch = 61; at = after_name } ∷ [] in
-          let passes : list_all is_unquoted_byte (chars value) ≡ true = all_chars is_unquoted_byte unquoted_long value value_utf8 inside in
+          let passes : list_all is_unquoted_byte (chars value) ≡ true = all_chars is_unquoted_byte (λ byte l. grind (arith, l, nat_tests)) value value_utf8 inside in
           let one : false ≡ eqb (length value) 0 = grind (arith, some, nat_tests) in
           let begun = has_characters value value_utf8 one in
           IsPart.unquoted (placed at name) sign pieces (is_name sign refl) refl
-          (ap (begins (λ c. not (ends_unquoted c || is_quote c))) (sym text_is) ∙ first_passes is_unquoted_byte (λ c. not (ends_unquoted c || is_quote c)) unquoted_begins in_value (chars value) (grind (arith, begun, nat_tests)) passes)
+          (ap (begins (λ c. not (ends_unquoted c || is_quote c))) (sym text_is) ∙ first_passes is_unquoted_byte (λ c. not (ends_unquoted c || is_quote c)) (λ c h. grind (arith, h, nat_tests)) in_value (chars value) (grind (arith, begun, nat_tests)) passes)
           (record {
             passes_none = ap (all (λ c. not (ends_unquoted c))) (sym text_is) ∙ all_placed (λ c. not (ends_unquoted c)) in_value (chars value) (all_weaker is_unquoted_byte (λ c. not (ends_unquoted c)) unquoted_inside (chars value) passes);
             stops_after = follows ends_unquoted next rest ends follow;
@@ -343,7 +331,7 @@ module _ (run : List ℕ) (found : PlainAttribute) (found_is : IsPlainAttribute 
             own = placed at name;
             spaces = close;
             text_is = whole_is close (nothing_between before_is no_value);
-            begins_so = subst (λ (x : List Placed). x ≡ next_at at run 0 ++ drop 1 x) named (next_then at found.name run (cut_at found.name run u name_edge) found_is.some);
+            begins_so = subst (λ (x : List Placed). x ≡ next_at at run 0 ++ drop 1 x) named (next_then at size run (cut_at size run u name_edge) found_is.some);
             are_spaces = white;
             is_part = λ last rest follow. IsPart.bare (placed at name) (is_name (close ++ rest) (stops_here rest)) (none_follows close next rest white other follow) (part_is (placed at name) [] [] [] (sym (append-nil (placed at name))) given refl);
           }

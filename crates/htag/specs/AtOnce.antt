@@ -7,7 +7,6 @@ use Rattle.names.specs.declared.placed.Placed.{Placed}
 use Rattle.names.specs.Placed.{is_equals, is_greater, is_letter, is_quote, is_space, placed}
 use Rattle.charref.specs.Reference.{Entities, Piece}
 use Rattle.htext.specs.Run.{is_unquoted_byte, is_word_byte, IsCut}
-use Rattle.htag.specs.declared.at_once.PlainAttribute.{PlainAttribute}
 use Rattle.htag.specs.declared.at_once.PlainValue.{PlainValue}
 use Rattle.htag.specs.Tag.{ends_name, ends_unquoted, value_errors}
 use Rattle.htag.specs.Value.{AreValue, pieces_text, value_bytes}
@@ -59,12 +58,12 @@ pub record IsPlainValue (run : List ℕ) (it : PlainValue) : Type 0 where
   pub bare : it.before ≡ 0 → it.plain ≡ true
   pub written : IsWritten before value after next
 
--- At the front of this run is an attribute, whose name stands for itself, and such a value.
-pub record IsPlainAttribute (run : List ℕ) (it : PlainAttribute) : Type 0 where
-  pub some : 0 < it.name
-  pub within : it.name ≤ length run
-  pub words : list_all is_word_byte (take it.name run) ≡ true
-  pub value : IsPlainValue (drop it.name run) it.value
+-- At the front of this run is an attribute, whose name has this length and stands for itself, and such a value.
+pub record IsPlainAttribute (run : List ℕ) (name : ℕ) (it : PlainValue) : Type 0 where
+  pub some : 0 < name
+  pub within : name ≤ length run
+  pub words : list_all is_word_byte (take name run) ≡ true
+  pub value : IsPlainValue (drop name run) it
 
 -- These are pieces of a value, after which this rest of it comes.
 pub record ArePieces (table : Entities) (text rest : List Placed) (old new : List ℕ) : Type 0 where

@@ -120,6 +120,13 @@ pub record PastAttributeValueQuoted (table : Entities) (walk : TagWalk) (held : 
   pub closes : characters close ≡ mark ∷ []
   pub own_is : own ≡ attribute_name_errors name ++ raised
 
+-- whether an attribute is being read in a phase
+abbrev pub is_in_attribute : TagState → Bool
+is_in_attribute phase.TagName = false
+is_in_attribute phase.BeforeAttributeName = false
+is_in_attribute phase.SelfClosingStartTag = false
+is_in_attribute _ = true
+
 -- what is held of a part in a phase, and its errors
 abbrev pub HasPhase : TagState → Entities → TagWalk → List Part → List Placed → List ParseError → Type 0
 HasPhase phase.TagName table walk parts held own = (parts ≡ []) × (held ≡ []) × (own ≡ [])

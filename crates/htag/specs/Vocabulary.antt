@@ -1,11 +1,11 @@
 -- The words of the contracts, in one place.
 pub use Rattle.charref.specs.Reference.{Entities}
 pub use Rattle.charref.specs.declared.walk.Walk.{Walk as Handed}
-pub use Rattle.htag.specs.AtOnce.{IsBareName, IsTagName, IsPlainAttribute, IsPlainValue, is_no_reference, IsQuietFront}
+pub use Rattle.htag.specs.AtOnce.{IsBareName, IsTagName, IsPlainValue, is_no_reference, IsQuietFront}
 pub use Rattle.htag.specs.Run.{IsValueRun, not_ended, TakesFront, TakesTagRun}
-pub use Rattle.htag.specs.Steps.{AddsToName, BeginsAttribute, EndsAs, EndsAttribute, IsBegun}
+pub use Rattle.htag.specs.Steps.{AddsToName, BeginsAttribute, EndsAs, EndsAttribute, IsBegun, StepsInAttribute}
 pub use Rattle.htag.specs.Tag.{Attribute, ends_name, is_odd}
-pub use Rattle.htag.specs.TagWalk.{IsCutTag, IsInTag, NoValue, StepsInTag, TakesInTag}
+pub use Rattle.htag.specs.TagWalk.{IsCutTag, IsInTag, is_in_attribute, NoValue, StepsInTag, TakesInTag}
 pub use Rattle.htag.specs.Value.{plain_piece}
 pub use Rattle.htag.specs.ValueWalk.{EndsValue, GivesBack, TakesInValue, TellsReference, pieces_errors}
 pub use Rattle.htag.specs.declared.kind.TagKind.TheVariants.{End, Start}

@@ -2,7 +2,7 @@
 
 ghost use Rattle.std.specs.Prelude.{◌≡◌, ◌<◌, ◌≤◌, ◌==◌, ◌+◌, IfSome, length, not, slice_index, true};
 ghost use Rattle.std.specs.List.{prefix_len};
-ghost use Rattle.htag.specs.Vocabulary.{is_quote, is_quoted_byte, IsBareName, IsTagName, IsPlainAttribute, IsPlainValue};
+ghost use Rattle.htag.specs.Vocabulary.{is_quote, is_quoted_byte, IsBareName, IsTagName, IsPlainValue};
 
 use crate::push::ends_name;
 use htext::{quoted_run, unquoted_run, word_run};
@@ -50,7 +50,6 @@ pub(crate) struct PlainValue {
     pub plain: bool,
 }
 
-/// A value with so many bytes before it, of its own, and after it.
 #[inline(always)]
 fn value_of(before: usize, value: usize, after: usize, plain: bool) -> PlainValue
     ensures { result ≡ record { before = before; value = value; after = after; plain = plain } }
@@ -63,7 +62,6 @@ fn value_of(before: usize, value: usize, after: usize, plain: bool) -> PlainValu
     }
 }
 
-/// How many bytes are before the first one that is this quote.
 #[inline(never)]
 fn before_quote(mark: u8, run: &[u8]) -> usize
     ensures counted { result ≡ prefix_len (λ byte. not (byte == mark)) run.now }
@@ -77,7 +75,6 @@ fn before_quote(mark: u8, run: &[u8]) -> usize
     run.len()
 }
 
-/// How many bytes of a value in these quotes are before the second one, where this many are before an `&` or it.
 #[inline(always)]
 fn value_end(plain: usize, mark: u8, run: &[u8]) -> usize
     requires counted { plain ≡ prefix_len (is_quoted_byte mark) run.now }
@@ -148,7 +145,7 @@ fn missing_value(run: &[u8]) -> Option<PlainValue>
 
 /// After attribute name state (`#after-attribute-name-state`): what follows an attribute's name, where the value is plain or missing.
 #[inline(always)]
-fn plain_value(run: &[u8]) -> Option<PlainValue>
+pub(crate) fn plain_value(run: &[u8]) -> Option<PlainValue>
     ensures { IfSome result (IsPlainValue run.now) }
 {
     if run.is_empty() {
@@ -159,25 +156,4 @@ fn plain_value(run: &[u8]) -> Option<PlainValue>
         b'=' => unquoted_value(run),
         _ => missing_value(run),
     }
-}
-
-/// An attribute: the length of its name, and what follows that.
-#[derive(Clone, Copy)]
-pub(crate) struct PlainAttribute {
-    pub name: usize,
-    pub value: PlainValue,
-}
-
-/// Attribute name state (`#attribute-name-state`): the attribute at the front of a run, where its name and its value stand for themselves.
-#[inline(always)]
-pub(crate) fn attribute_front(run: &[u8]) -> Option<PlainAttribute>
-    ensures front { IfSome result (IsPlainAttribute run.now) }
-    ensures few { IfSome result (λ it. it.name + it.value.before + it.value.value + it.value.after ≤ length run.now) }
-{
-    let name = word_run(run);
-    if name == 0 {
-        return None;
-    }
-    let value = plain_value(&run[name..])?;
-    Some(PlainAttribute { name, value })
 }

@@ -1,9 +1,9 @@
-//! An attribute of a tag.
+//! A character of a tag, and of an attribute in it.
 
-ghost use Rattle.std.specs.Prelude.{◌≡◌, ◌∷◌, ◌++◌, List, [], slice_get, Some, IfErr, OnOk, MatchResult, if◌then◌else◌};
-ghost use Rattle.htag.specs.Vocabulary.{AreNames, Attribute, EndsAs, Character, Texts, Grows, Entities, EndsAttribute, BeginsAttribute, AddsToName, IsInTag, StepsInTag, TakesInTag, Memory};
+ghost use Rattle.std.specs.Prelude.{◌≡◌, ◌∷◌, ◌++◌, List, [], slice_get, true, Some, IfErr, OnOk, MatchResult, if◌then◌else◌};
+ghost use Rattle.htag.specs.Vocabulary.{AreNames, Attribute, EndsAs, Character, Texts, Grows, Entities, EndsAttribute, AddsToName, IsInTag, is_in_attribute, StepsInAttribute, TakesInTag, IsCutTag, Memory};
 
-use crate::push::{Errors, ends_name, keep_if, keep_null, push_lowered};
+use crate::push::{Errors, ends_name, keep_if, keep_null, kept};
 use crate::tag_state::TagState;
 use crate::walk::TagWalk;
 use charref::Table;
@@ -13,50 +13,66 @@ use std::alloc::AllocError;
 /// The most names that numbers of 32 bits tell apart.
 const MAX_NUMBER: usize = 4_294_967_295;
 
+/// Whether an attribute has ended before a character, which is taken otherwise.
+type Past = Result<bool, AllocError>;
+
 impl<'t> TagWalk<'t> {
-    /// Begins an attribute with the first character of its name.
+    /// Takes the next character; returns whether the tag has ended with it. Each call for one tag is handed the same tables and
+    /// the errors that the calls before it left.
     #[inline(always)]
-    pub(crate) fn begin_attribute(
+    pub fn take_char(
         &mut self,
-        next: Placed,
-        errors: &mut Errors,
-    ) -> Result<(), AllocError>
-        ensures { OnOk result (BeginsAttribute self.old next errors.old.items self.new errors.new.items) }
+        table: &'t Table,
+        names: &mut Names,
+        ch: char,
+        at: u64,
+        errors: &mut Vec<ParseError>,
+    ) -> Result<bool, Refusal>
+        ensures takes { (body : List Character) → IsInTag table.now names.old self.old body (record { ch = ch; at = at } ∷ []) errors.old.items
+            → TakesInTag table.now names.new (body ++ record { ch = ch; at = at } ∷ []) result self.new errors.new.items }
+        ensures grows { Grows names.old names.new }
+        ensures kind { OnOk result (self.new.kind ≡ self.old.kind) }
     {
-        let code = ErrorCode::UnexpectedEqualsSignBeforeAttributeName;
-        keep_if(next.ch == '=', code, next.at, errors)?;
-        self.attribute.clear();
-        self.value.begin();
-        self.at = next.at;
-        self.phase = TagState::AttributeName;
-        self.add_to_name(next, errors)
+        let next = Placed { ch, at };
+        match self.phase {
+            TagState::TagName => self.in_tag_name(next, errors),
+            TagState::BeforeAttributeName => self.before_attribute_name(next, errors),
+            TagState::SelfClosingStartTag => self.self_closing_start_tag(next, errors),
+            _ => {
+                if !self.in_attribute(table, next, errors)? {
+                    return Ok(false);
+                }
+                self.end_attribute(names, errors)?;
+                self.before_attribute_name(next, errors)
+            }
+        }
     }
 
-    /// Adds a character to the attribute's name.
     #[inline(always)]
-    fn add_to_name(&mut self, next: Placed, errors: &mut Errors) -> Result<(), AllocError>
-        ensures { OnOk result (AddsToName self.old next errors.old.items self.new errors.new.items) }
+    fn in_attribute(&mut self, table: &'t Table, next: Placed, errors: &mut Errors) -> Past
+        requires { is_in_attribute self.old.phase ≡ true }
+        ensures takes { (names : Texts) → StepsInAttribute table.now names self.old next errors.old.items result self.new errors.new.items }
+        ensures kind { OnOk result (self.new.kind ≡ self.old.kind) }
     {
-        let odd = next.ch == '"' || next.ch == '\'' || next.ch == '<';
-        let code = ErrorCode::UnexpectedCharacterInAttributeName;
-        keep_if(odd, code, next.at, errors)?;
-        keep_null(next, errors)?;
-        push_lowered(&mut self.attribute, next.ch)
+        match self.phase {
+            TagState::TagName | TagState::BeforeAttributeName | TagState::SelfClosingStartTag => {
+                Ok(false)
+            }
+            TagState::AttributeName => self.in_attribute_name(false, next, errors),
+            TagState::AfterAttributeName => self.in_attribute_name(true, next, errors),
+            TagState::BeforeAttributeValue => self.before_value(table, next, errors),
+            TagState::AttributeValueQuoted(mark) => self.in_quotes(table, mark, next, errors),
+            TagState::AttributeValueUnquoted => self.in_value_unquoted(table, next, errors),
+            TagState::AfterAttributeValueQuoted => self.after_value_quoted(next, errors),
+        }
     }
 
     /// The attribute name state (`#attribute-name-state`), and, where white space came after the name, the after attribute name state
     /// (`#after-attribute-name-state`).
     #[inline(always)]
-    pub(crate) fn in_attribute_name(
-        &mut self,
-        spaced: bool,
-        names: &mut Names,
-        next: Placed,
-        errors: &mut Errors,
-    ) -> Result<bool, Refusal>
+    fn in_attribute_name(&mut self, spaced: bool, next: Placed, errors: &mut Errors) -> Past
         requires { self.old.phase ≡ (if spaced then TagState.AfterAttributeName else TagState.AttributeName) }
-        ensures takes { (table : Entities) → StepsInTag table names.old names.new self.old next errors.old.items result self.new errors.new.items }
-        ensures grows { Grows names.old names.new }
+        ensures takes { (table : Entities) (names : Texts) → StepsInAttribute table names self.old next errors.old.items result self.new errors.new.items }
         ensures kind { OnOk result (self.new.kind ≡ self.old.kind) }
     {
         if next.ch.is_ascii_whitespace() {
@@ -68,24 +84,28 @@ impl<'t> TagWalk<'t> {
             return Ok(false);
         }
         if spaced || next.ch == '/' || next.ch == '>' {
-            return self.past_attribute(names, next, errors);
+            return Ok(true);
         }
-        self.add_to_name(next, errors)?;
+        self.push_name(next, errors)?;
         Ok(false)
+    }
+
+    #[inline(always)]
+    pub(crate) fn push_name(&mut self, next: Placed, errors: &mut Errors) -> Result<(), AllocError>
+        ensures { OnOk result (AddsToName self.old next errors.old.items self.new errors.new.items) }
+    {
+        let odd = next.ch == '"' || next.ch == '\'' || next.ch == '<';
+        let code = ErrorCode::UnexpectedCharacterInAttributeName;
+        keep_if(odd, code, next.at, errors)?;
+        keep_null(next, errors)?;
+        self.attribute.push(kept(next.ch).to_ascii_lowercase())
     }
 
     /// The before attribute value state (`#before-attribute-value-state`).
     #[inline(always)]
-    pub(crate) fn before_attribute_value(
-        &mut self,
-        table: &'t Table,
-        names: &mut Names,
-        next: Placed,
-        errors: &mut Errors,
-    ) -> Result<bool, Refusal>
+    fn before_value(&mut self, table: &'t Table, next: Placed, errors: &mut Errors) -> Past
         requires { self.old.phase ≡ TagState.BeforeAttributeValue }
-        ensures takes { StepsInTag table.now names.old names.new self.old next errors.old.items result self.new errors.new.items }
-        ensures grows { Grows names.old names.new }
+        ensures takes { (names : Texts) → StepsInAttribute table.now names self.old next errors.old.items result self.new errors.new.items }
         ensures kind { OnOk result (self.new.kind ≡ self.old.kind) }
     {
         if next.ch.is_ascii_whitespace() {
@@ -97,7 +117,7 @@ impl<'t> TagWalk<'t> {
         }
         if next.ch == '>' {
             keep_if(true, ErrorCode::MissingAttributeValue, next.at, errors)?;
-            return self.past_attribute(names, next, errors);
+            return Ok(true);
         }
         self.phase = TagState::AttributeValueUnquoted;
         self.value.take(table, false, next, errors)?;
@@ -107,15 +127,9 @@ impl<'t> TagWalk<'t> {
     /// The attribute value (double-quoted) and attribute value (single-quoted) states (`#attribute-value-(double-quoted)-state`,
     /// `#attribute-value-(single-quoted)-state`).
     #[inline(always)]
-    pub(crate) fn in_attribute_value_quoted(
-        &mut self,
-        table: &'t Table,
-        mark: char,
-        next: Placed,
-        errors: &mut Errors,
-    ) -> Result<bool, Refusal>
+    fn in_quotes(&mut self, table: &'t Table, mark: char, next: Placed, errors: &mut Errors) -> Past
         requires { self.old.phase ≡ TagState.AttributeValueQuoted mark }
-        ensures takes { (names : Texts) → StepsInTag table.now names names self.old next errors.old.items result self.new errors.new.items }
+        ensures takes { (names : Texts) → StepsInAttribute table.now names self.old next errors.old.items result self.new errors.new.items }
         ensures kind { OnOk result (self.new.kind ≡ self.old.kind) }
     {
         if next.ch == mark {
@@ -128,22 +142,14 @@ impl<'t> TagWalk<'t> {
     }
 
     /// The attribute value (unquoted) state (`#attribute-value-(unquoted)-state`).
-    pub(crate) fn in_attribute_value_unquoted(
-        &mut self,
-        table: &'t Table,
-        names: &mut Names,
-        next: Placed,
-        errors: &mut Errors,
-    ) -> Result<bool, Refusal>
+    fn in_value_unquoted(&mut self, table: &'t Table, next: Placed, errors: &mut Errors) -> Past
         requires { self.old.phase ≡ TagState.AttributeValueUnquoted }
-        ensures takes { StepsInTag table.now names.old names.new self.old next errors.old.items result self.new errors.new.items }
-        ensures grows { Grows names.old names.new }
+        ensures takes { (names : Texts) → StepsInAttribute table.now names self.old next errors.old.items result self.new errors.new.items }
         ensures kind { OnOk result (self.new.kind ≡ self.old.kind) }
     {
         if next.ch == '>' || next.ch.is_ascii_whitespace() {
             self.value.end(errors)?;
-            self.end_attribute(names, errors)?;
-            return self.before_attribute_name(next, errors);
+            return Ok(true);
         }
         self.value.take(table, false, next, errors)?;
         Ok(false)
@@ -151,48 +157,40 @@ impl<'t> TagWalk<'t> {
 
     /// The after attribute value (quoted) state (`#after-attribute-value-(quoted)-state`).
     #[inline(always)]
-    pub(crate) fn after_attribute_value_quoted(
-        &mut self,
-        names: &mut Names,
-        next: Placed,
-        errors: &mut Errors,
-    ) -> Result<bool, Refusal>
+    fn after_value_quoted(&mut self, next: Placed, errors: &mut Errors) -> Past
         requires { self.old.phase ≡ TagState.AfterAttributeValueQuoted }
-        ensures takes { (table : Entities) → StepsInTag table names.old names.new self.old next errors.old.items result self.new errors.new.items }
-        ensures grows { Grows names.old names.new }
+        ensures takes { (table : Entities) (names : Texts) → StepsInAttribute table names self.old next errors.old.items result self.new errors.new.items }
         ensures kind { OnOk result (self.new.kind ≡ self.old.kind) }
     {
         let code = ErrorCode::MissingWhitespaceBetweenAttributes;
         keep_if(!ends_name(next.ch), code, next.at, errors)?;
-        self.past_attribute(names, next, errors)
+        Ok(true)
     }
 
-    /// An attribute has been read, and this character after it.
-    #[inline(always)]
-    fn past_attribute(
-        &mut self,
-        names: &mut Names,
-        next: Placed,
-        errors: &mut Errors,
-    ) -> Result<bool, Refusal>
-        ensures takes { (table : Entities) (body : List Character)
-            → ((after : Texts) (walk : TagWalk) (later : List ParseError) → EndsAttribute names.old after self.old errors.old.items walk later
-            → IsInTag table after walk body (next ∷ []) later)
-            → TakesInTag table names.new (body ++ next ∷ []) result self.new errors.new.items }
+    /// The input ends inside the tag: finishes the attribute that is being read. There is no tag then, but its errors stay.
+    pub fn end(&mut self, names: &mut Names, errors: &mut Vec<ParseError>) -> Result<(), Refusal>
+        ensures cut { (table : Entities) (body : List Character) → IsInTag table names.old self.old body [] errors.old.items
+            → MatchResult result (λ _. IsCutTag table body errors.new.items) (λ e. e ≡ Memory) }
         ensures grows { Grows names.old names.new }
-        ensures kind { OnOk result (self.new.kind ≡ self.old.kind) }
     {
-        self.end_attribute(names, errors)?;
-        self.before_attribute_name(next, errors)
+        match self.phase {
+            TagState::TagName | TagState::BeforeAttributeName | TagState::SelfClosingStartTag => Ok(
+                (),
+            ),
+            TagState::AttributeValueQuoted(_) | TagState::AttributeValueUnquoted => {
+                self.value.end(errors)?;
+                self.end_attribute(names, errors)
+            }
+            TagState::AttributeName
+            | TagState::AfterAttributeName
+            | TagState::BeforeAttributeValue
+            | TagState::AfterAttributeValueQuoted => self.end_attribute(names, errors),
+        }
     }
 
     /// An attribute has been read: keeps the first one of its name.
     #[inline(never)]
-    pub(crate) fn end_attribute(
-        &mut self,
-        names: &mut Names,
-        errors: &mut Errors,
-    ) -> Result<(), Refusal>
+    fn end_attribute(&mut self, names: &mut Names, errors: &mut Errors) -> Result<(), Refusal>
         ensures ended { MatchResult result (λ _. EndsAttribute names.old names.new self.old errors.old.items self.new errors.new.items) (λ e. e ≡ Memory) }
         ensures grows { Grows names.old names.new }
     {
@@ -201,8 +199,7 @@ impl<'t> TagWalk<'t> {
         self.keep(attr, errors)
     }
 
-    /// Keeps an attribute that begins at `place`, if it is the first of its name, as leaving the attribute name state says
-    /// (`#attribute-name-state`).
+    /// Keeps an attribute if it is the first of its name, as leaving the attribute name state says (`#attribute-name-state`).
     #[inline(always)]
     pub(crate) fn keep(&mut self, attr: Attr, errors: &mut Errors) -> Result<(), Refusal>
         ensures keeps { (before after : Texts) (it : Attribute) → Grows before after → AreNames after → slice_get after attr.name ≡ Some it.name
@@ -220,10 +217,7 @@ impl<'t> TagWalk<'t> {
         if self.seen.add(number)? {
             self.attrs.push(attr)?;
         } else {
-            errors.push(ParseError {
-                code: ErrorCode::DuplicateAttribute,
-                at: self.at,
-            })?;
+            keep_if(true, ErrorCode::DuplicateAttribute, self.at, errors)?;
         }
         Ok(())
     }

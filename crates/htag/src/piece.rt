@@ -4,7 +4,7 @@
 ghost use Rattle.std.specs.Prelude.{◌≡◌, ◌-◌, true, OnOk};
 ghost use Rattle.htag.specs.Vocabulary.{NoValue, TakesInValue, EndsValue, TellsReference, GivesBack};
 
-use crate::push::{Errors, is_fault, keep_if, keep_null, push_all, push_value};
+use crate::push::{Errors, is_fault, keep_if, keep_null, kept, push_all};
 use charref::{Reference, Table, Walk};
 use names::{ErrorCode, Placed};
 use std::alloc::{AllocError, Global};
@@ -45,7 +45,6 @@ impl<'t> ValueWalk<'t> {
         }
     }
 
-    /// Begins another value.
     pub fn begin(&mut self)
         ensures { NoValue self.new }
     {
@@ -80,21 +79,19 @@ impl<'t> ValueWalk<'t> {
         }
     }
 
-    /// The value ends.
     pub fn end(&mut self, errors: &mut Errors) -> Result<(), AllocError>
         ensures { OnOk result (EndsValue self.old errors.old.items self.new errors.new.items) }
     {
         match self.reading {
-            Pending::Reference(walk) => self.end_reference(walk, errors),
-            Pending::Nothing => Ok(()),
-            Pending::AmbiguousAmpersand => {
-                self.reading = Pending::Nothing;
-                Ok(())
+            Pending::Nothing | Pending::AmbiguousAmpersand => Ok(()),
+            Pending::Reference(walk) => {
+                let found = walk.end();
+                self.tell(found, errors)?;
+                self.give_back(found.left)
             }
         }
     }
 
-    /// A character where no reference is being read.
     fn take_next(
         &mut self,
         table: &'t Table,
@@ -109,7 +106,8 @@ impl<'t> ValueWalk<'t> {
             let code = ErrorCode::UnexpectedCharacterInUnquotedAttributeValue;
             keep_if(is_fault(quoted, next.ch), code, next.at, errors)?;
             keep_null(next, errors)?;
-            return push_value(&mut self.text, next.ch);
+            self.text.push(kept(next.ch))?;
+            return Ok(());
         }
         self.reading = Pending::Reference(Walk::new(table, true));
         self.at = next.at;
@@ -159,19 +157,6 @@ impl<'t> ValueWalk<'t> {
         self.take_next(table, quoted, next, errors)
     }
 
-    /// The value ends after an `&` and what this walk was handed.
-    #[inline(never)]
-    fn end_reference(&mut self, walk: Walk<'t>, errors: &mut Errors) -> Result<(), AllocError>
-        requires { self.old.reading ≡ Pending.Reference walk }
-        ensures { OnOk result (EndsValue self.old errors.old.items self.new errors.new.items) }
-    {
-        let found = walk.end();
-        self.tell(found, errors)?;
-        self.reading = Pending::Nothing;
-        self.give_back(found.left)
-    }
-
-    /// Adds the characters of a reference, and keeps its errors.
     fn tell(&mut self, found: Reference, errors: &mut Errors) -> Result<(), AllocError>
         ensures { OnOk result (TellsReference found self.old errors.old.items self.new errors.new.items) }
     {
@@ -183,7 +168,6 @@ impl<'t> ValueWalk<'t> {
         found.characters.push_to(&mut self.text)
     }
 
-    /// Adds the last `count` characters that were held.
     fn give_back(&mut self, count: usize) -> Result<(), AllocError>
         ensures { OnOk result (GivesBack count self.old self.new) }
     {

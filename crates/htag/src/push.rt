@@ -1,16 +1,17 @@
 //! Characters and errors, added to what was read.
 
-ghost use Rattle.std.specs.Prelude.{◌≡◌, ◌==◌, ◌&&◌, ◌∷◌, ◌++◌, [], not, OnOk, string_bytes, encode_utf8_all};
-ghost use Rattle.std.specs.Char.{encode_utf8, to_ascii_lowercase};
+ghost use Rattle.std.specs.Prelude.{◌≡◌, ◌&&◌, ◌∷◌, ◌++◌, [], not, OnOk, string_bytes, encode_utf8_all};
 ghost use Rattle.htag.specs.Vocabulary.{error_if, null_errors, without_null, ends_name, is_odd};
 
-use names::{ErrorCode, ParseError, Placed};
+use names::{ErrorCode, ParseError, Placed, Refusal};
 use std::alloc::AllocError;
 
 /// The errors that were raised, in the order of the text.
 pub(crate) type Errors = Vec<ParseError>;
 
-/// Whether a tag's name ends before this character.
+/// Whether a tag has ended with a character, or why it was not taken.
+pub(crate) type Ended = Result<bool, Refusal>;
+
 #[inline(always)]
 pub(crate) fn ends_name(ch: char) -> bool
     ensures { result ≡ ends_name ch }
@@ -18,7 +19,6 @@ pub(crate) fn ends_name(ch: char) -> bool
     ch == '>' || ch == '/' || ch.is_ascii_whitespace()
 }
 
-/// Whether a character is a fault in a value, in quotes or not.
 #[inline(always)]
 pub(crate) fn is_fault(quoted: bool, ch: char) -> bool
     ensures { result ≡ not quoted && is_odd ch }
@@ -26,29 +26,14 @@ pub(crate) fn is_fault(quoted: bool, ch: char) -> bool
     !quoted && matches!(ch, '"' | '\'' | '<' | '=' | '`')
 }
 
-/// A character of a name: lowered, NUL as U+FFFD.
+/// The character to keep: U+FFFD in place of NUL.
 #[inline(always)]
-pub(crate) fn push_lowered(text: &mut String, ch: char) -> Result<(), AllocError>
-    ensures { OnOk result (string_bytes text.new ≡ string_bytes text.old ++ encode_utf8 (to_ascii_lowercase (without_null ch))) }
+pub(crate) fn kept(ch: char) -> char
+    ensures { result ≡ without_null ch }
 {
-    if ch == '\0' {
-        return text.push('\u{FFFD}');
-    }
-    text.push(ch.to_ascii_lowercase())
+    if ch == '\0' { '\u{FFFD}' } else { ch }
 }
 
-/// A character of a value: NUL as U+FFFD.
-#[inline(always)]
-pub(crate) fn push_value(text: &mut String, ch: char) -> Result<(), AllocError>
-    ensures { OnOk result (string_bytes text.new ≡ string_bytes text.old ++ encode_utf8 (without_null ch)) }
-{
-    if ch == '\0' {
-        return text.push('\u{FFFD}');
-    }
-    text.push(ch)
-}
-
-/// Keeps an error, if there is one.
 #[inline(always)]
 pub(crate) fn keep_if(
     says: bool,
@@ -64,7 +49,6 @@ pub(crate) fn keep_if(
     Ok(())
 }
 
-/// Keeps the error of a NUL.
 #[inline(always)]
 pub(crate) fn keep_null(next: Placed, errors: &mut Errors) -> Result<(), AllocError>
     ensures { OnOk result (errors.new.items ≡ errors.old.items ++ null_errors (next ∷ [])) }
@@ -73,7 +57,6 @@ pub(crate) fn keep_null(next: Placed, errors: &mut Errors) -> Result<(), AllocEr
     keep_if(next.ch == '\0', code, next.at, errors)
 }
 
-/// All of these characters.
 pub(crate) fn push_all(text: &mut String, characters: &[char]) -> Result<(), AllocError>
     ensures { OnOk result (string_bytes text.new ≡ string_bytes text.old ++ encode_utf8_all characters.now) }
 {

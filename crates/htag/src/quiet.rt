@@ -30,7 +30,6 @@ impl<'t> ValueWalk<'t> {
         self.read_quiet(table, run)
     }
 
-    /// The value that was read.
     #[inline(always)]
     pub(crate) fn value<'a>(&'a self, plain: bool, run: &'a str) -> &'a str
         ensures { result.now ≡ (if plain then run.now else string_bytes self.now.text) }

@@ -6,7 +6,7 @@ ghost use Rattle.std.specs.List.{list_all};
 ghost use Rattle.std.specs.Str.{chars};
 ghost use Rattle.htag.specs.Vocabulary.{Character, Entities, Grows, Texts, MAX_INPUT, is_clean, IsCut, IsValueRun, not_ended, TakesFront, TakesTagRun, IsInTag};
 
-use crate::at_once::attribute_front;
+use crate::at_once::plain_value;
 use crate::piece::Pending;
 use crate::push::ends_name;
 use crate::tag_state::TagState;
@@ -97,10 +97,11 @@ impl<'t> TagWalk<'t> {
         requires some { 0 < length run.now }
         ensures { TakesFront table.now names.old names.new at run.now self.old errors.old.items (not_ended result) self.new errors.new.items }
     {
-        let is_small = run.as_bytes()[0].is_ascii_lowercase();
+        let bytes = run.as_bytes();
+        let is_small = bytes[0].is_ascii_lowercase();
         match self.phase {
             TagState::TagName if is_small => {
-                let count = word_run(run.as_bytes());
+                let count = word_run(bytes);
                 self.name.push_str(&run[..count])?;
                 Ok(count)
             }
@@ -111,17 +112,14 @@ impl<'t> TagWalk<'t> {
                 if !mark.is_ascii() {
                     return Ok(0);
                 }
-                self.take_in_value(quoted_run(mark as u8, run.as_bytes()), run)
+                self.take_in_value(quoted_run(mark as u8, bytes), run)
             }
-            TagState::AttributeValueUnquoted => {
-                self.take_in_value(unquoted_run(run.as_bytes()), run)
-            }
+            TagState::AttributeValueUnquoted => self.take_in_value(unquoted_run(bytes), run),
             _ => Ok(0),
         }
     }
 
-    /// Takes the characters at the front of a run that stand for themselves in a value, this many bytes. Returns their length, or 0 where a
-    /// reference is being read.
+    /// Takes so many bytes of a run, which stand for themselves in a value. Returns their length, or 0 where a reference is being read.
     #[inline(never)]
     fn take_in_value(&mut self, count: usize, run: &str) -> Result<usize, Refusal>
         requires stands { IsValueRun self.old.phase run.now count }
@@ -150,20 +148,25 @@ impl<'t> TagWalk<'t> {
         requires clean { list_all is_clean (chars run.now) ≡ true }
         ensures { TakesFront table.now names.old names.new at run.now self.old errors.old.items (not_ended result) self.new errors.new.items }
     {
-        let Some(found) = attribute_front(run.as_bytes()) else {
-            return Ok(0);
-        };
-        let from = found.name + found.value.before;
-        let to = from + found.value.value;
-        let written = &run[from..to];
-        if !self.value.read_value(table, found.value.plain, written)? {
+        let bytes = run.as_bytes();
+        let length = word_run(bytes);
+        if length == 0 {
             return Ok(0);
         }
-        let name = names.intern(self.alloc, &run[..found.name])?;
-        let value = self.value.value(found.value.plain, written);
+        let Some(found) = plain_value(&bytes[length..]) else {
+            return Ok(0);
+        };
+        let from = length + found.before;
+        let to = from + found.value;
+        let written = &run[from..to];
+        if !self.value.read_value(table, found.plain, written)? {
+            return Ok(0);
+        }
+        let name = names.intern(self.alloc, &run[..length])?;
+        let value = self.value.value(found.plain, written);
         let attr = Attr::new(name, value, self.alloc)?;
         self.at = at;
         self.keep(attr, errors)?;
-        Ok(to + found.value.after)
+        Ok(to + found.after)
     }
 }

@@ -16,7 +16,6 @@ impl Seen {
         }
     }
 
-    /// Begins another tag.
     pub fn begin(&mut self)
         ensures { HasSeen self.new [] }
     {

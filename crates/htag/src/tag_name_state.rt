@@ -1,17 +1,18 @@
 //! A tag's name, and what is between its attributes.
 
 ghost use Rattle.std.specs.Prelude.{◌≡◌, OnOk};
-ghost use Rattle.htag.specs.Vocabulary.{Texts, Entities, StepsInTag};
+ghost use Rattle.htag.specs.Vocabulary.{BeginsAttribute, Texts, Entities, StepsInTag};
 
-use crate::push::{Errors, ends_name, keep_if, keep_null, push_lowered};
+use crate::push::{Ended, Errors, ends_name, keep_if, keep_null, kept};
 use crate::tag_state::TagState;
 use crate::walk::TagWalk;
-use names::{ErrorCode, Placed, Refusal};
+use names::{ErrorCode, Placed};
+use std::alloc::AllocError;
 
 impl<'t> TagWalk<'t> {
     /// The tag name state (`#tag-name-state`).
     #[inline(always)]
-    pub(crate) fn in_tag_name(&mut self, next: Placed, errors: &mut Errors) -> Result<bool, Refusal>
+    pub(crate) fn in_tag_name(&mut self, next: Placed, errors: &mut Errors) -> Ended
         requires { self.old.phase ≡ TagState.TagName }
         ensures takes { (table : Entities) (names : Texts) → StepsInTag table names names self.old next errors.old.items result self.new errors.new.items }
         ensures kind { OnOk result (self.new.kind ≡ self.old.kind) }
@@ -21,17 +22,13 @@ impl<'t> TagWalk<'t> {
             return self.before_attribute_name(next, errors);
         }
         keep_null(next, errors)?;
-        push_lowered(&mut self.name, next.ch)?;
+        self.name.push(kept(next.ch).to_ascii_lowercase())?;
         Ok(false)
     }
 
     /// The before attribute name state (`#before-attribute-name-state`).
     #[inline(always)]
-    pub(crate) fn before_attribute_name(
-        &mut self,
-        next: Placed,
-        errors: &mut Errors,
-    ) -> Result<bool, Refusal>
+    pub(crate) fn before_attribute_name(&mut self, next: Placed, errors: &mut Errors) -> Ended
         requires { self.old.phase ≡ TagState.BeforeAttributeName }
         ensures takes { (table : Entities) (names : Texts) → StepsInTag table names names self.old next errors.old.items result self.new errors.new.items }
         ensures kind { OnOk result (self.new.kind ≡ self.old.kind) }
@@ -51,12 +48,21 @@ impl<'t> TagWalk<'t> {
         Ok(false)
     }
 
+    #[inline(always)]
+    fn begin_attribute(&mut self, next: Placed, errors: &mut Errors) -> Result<(), AllocError>
+        ensures { OnOk result (BeginsAttribute self.old next errors.old.items self.new errors.new.items) }
+    {
+        let code = ErrorCode::UnexpectedEqualsSignBeforeAttributeName;
+        keep_if(next.ch == '=', code, next.at, errors)?;
+        self.attribute.clear();
+        self.value.begin();
+        self.at = next.at;
+        self.phase = TagState::AttributeName;
+        self.push_name(next, errors)
+    }
+
     /// The self-closing start tag state (`#self-closing-start-tag-state`), after a `/`.
-    pub(crate) fn self_closing_start_tag(
-        &mut self,
-        next: Placed,
-        errors: &mut Errors,
-    ) -> Result<bool, Refusal>
+    pub(crate) fn self_closing_start_tag(&mut self, next: Placed, errors: &mut Errors) -> Ended
         requires { self.old.phase ≡ TagState.SelfClosingStartTag }
         ensures takes { (table : Entities) (names : Texts) → StepsInTag table names names self.old next errors.old.items result self.new errors.new.items }
         ensures kind { OnOk result (self.new.kind ≡ self.old.kind) }

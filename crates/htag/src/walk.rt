@@ -1,15 +1,14 @@
 //! A walk through a tag.
 
-ghost use Rattle.std.specs.Prelude.{◌≡◌, ◌∷◌, ◌++◌, ℕ, List, [], length, true, false, OnOk, MatchResult, string_bytes};
-ghost use Rattle.htag.specs.Vocabulary.{Character, Texts, Grows, all, begins, is_letter, name_bytes, Entities, Start, End, IsBegun, NoValue, IsInTag, TakesInTag, IsCutTag, IsTagName, Memory, placed};
+ghost use Rattle.std.specs.Prelude.{◌≡◌, ◌∷◌, ℕ, List, [], length, true, false, OnOk, string_bytes};
+ghost use Rattle.htag.specs.Vocabulary.{Character, Texts, all, begins, is_letter, name_bytes, Entities, Start, End, IsBegun, NoValue, IsInTag, IsTagName, placed};
 
 use crate::kind::TagKind;
 use crate::piece::ValueWalk;
-use crate::push::push_lowered;
+use crate::push::kept;
 use crate::seen::Seen;
 use crate::tag_state::TagState;
-use charref::Table;
-use names::{Attr, Names, ParseError, Placed, Refusal};
+use names::Attr;
 use std::alloc::{AllocError, Global};
 use std::mem;
 
@@ -64,7 +63,7 @@ impl<'t> TagWalk<'t> {
             → IsInTag table names self.new (p ∷ []) [] []) }
     {
         self.name.clear();
-        push_lowered(&mut self.name, ch)?;
+        self.name.push(kept(ch).to_ascii_lowercase())?;
         self.begin_parts(kind);
         Ok(())
     }
@@ -90,65 +89,6 @@ impl<'t> TagWalk<'t> {
             → string_bytes self.old.name ≡ name_bytes letters → IsInTag table names self.new letters [] [] }
     {
         self.begin_parts(TagKind::End);
-    }
-
-    /// Takes the next character; returns whether the tag has ended with it. Each call for one tag is handed the same tables and
-    /// the errors that the calls before it left.
-    #[inline(always)]
-    pub fn take_char(
-        &mut self,
-        table: &'t Table,
-        names: &mut Names,
-        ch: char,
-        at: u64,
-        errors: &mut Vec<ParseError>,
-    ) -> Result<bool, Refusal>
-        ensures takes { (body : List Character) → IsInTag table.now names.old self.old body (record { ch = ch; at = at } ∷ []) errors.old.items
-            → TakesInTag table.now names.new (body ++ record { ch = ch; at = at } ∷ []) result self.new errors.new.items }
-        ensures grows { Grows names.old names.new }
-        ensures kind { OnOk result (self.new.kind ≡ self.old.kind) }
-    {
-        let next = Placed { ch, at };
-        match self.phase {
-            TagState::TagName => self.in_tag_name(next, errors),
-            TagState::BeforeAttributeName => self.before_attribute_name(next, errors),
-            TagState::SelfClosingStartTag => self.self_closing_start_tag(next, errors),
-            TagState::AttributeName => self.in_attribute_name(false, names, next, errors),
-            TagState::AfterAttributeName => self.in_attribute_name(true, names, next, errors),
-            TagState::BeforeAttributeValue => self.before_attribute_value(
-                table, names, next, errors,
-            ),
-            TagState::AttributeValueQuoted(mark) => self.in_attribute_value_quoted(
-                table, mark, next, errors,
-            ),
-            TagState::AttributeValueUnquoted => self.in_attribute_value_unquoted(
-                table, names, next, errors,
-            ),
-            TagState::AfterAttributeValueQuoted => self.after_attribute_value_quoted(
-                names, next, errors,
-            ),
-        }
-    }
-
-    /// The input ends inside the tag: finishes the attribute that is being read. There is no tag then, but its errors stay.
-    pub fn end(&mut self, names: &mut Names, errors: &mut Vec<ParseError>) -> Result<(), Refusal>
-        ensures cut { (table : Entities) (body : List Character) → IsInTag table names.old self.old body [] errors.old.items
-            → MatchResult result (λ _. IsCutTag table body errors.new.items) (λ e. e ≡ Memory) }
-        ensures grows { Grows names.old names.new }
-    {
-        match self.phase {
-            TagState::TagName | TagState::BeforeAttributeName | TagState::SelfClosingStartTag => Ok(
-                (),
-            ),
-            TagState::AttributeValueQuoted(_) | TagState::AttributeValueUnquoted => {
-                self.value.end(errors)?;
-                self.end_attribute(names, errors)
-            }
-            TagState::AttributeName
-            | TagState::AfterAttributeName
-            | TagState::BeforeAttributeValue
-            | TagState::AfterAttributeValueQuoted => self.end_attribute(names, errors),
-        }
     }
 
     pub fn kind(&self) -> TagKind

@@ -1,6 +1,4 @@
-use Rattle.htag.proofs.Vocabulary.{◌≡◌, ◌≤◌, ◌∷◌, ◌++◌, ◌-◌, ◌+◌, [], ℕ, List, true, false, None, length, take, drop, sym, ap, ◌∙◌, subst, arith, nat_tests, length-drop, length-take-le, list_all, placed, prefix_len, slice_index, string_bytes, take_all, IsRead, is_ascii, is_quoted_byte, front_of, IsQuietFront}
-use Rattle.std.proofs.Common.{rules}
-use Rattle.std.proofs.lemmas.List.Sums.{prefix_len_stops}
+use Rattle.htag.proofs.Vocabulary.{◌≡◌, ◌≤◌, ◌∷◌, ◌++◌, ◌-◌, [], ℕ, List, true, false, None, length, take, drop, sym, ap, ◌∙◌, subst, arith, nat_tests, length-drop, length-take-le, list_all, placed, prefix_len, slice_index, string_bytes, take_all, IsRead, is_ascii, is_quoted_byte, front_of, IsQuietFront, rules, prefix_len_stops}
 use Rattle.htag.proofs.Ascii.{edge_of}
 use Rattle.htag.proofs.QuietValues.{first_amp, length-placed, reference_front, text_front}
 use Rattle.htag.proofs.piece.ValueWalk.read_front.Goals as goal

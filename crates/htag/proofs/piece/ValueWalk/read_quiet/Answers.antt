@@ -1,4 +1,4 @@
-use Rattle.htag.proofs.Vocabulary.{◌≡◌, ℕ, List, [], length, sym, ap, ◌∙◌, subst, arith, length-drop, list_all, string_bytes, chars, is_clean, clean_rest, IsQuietFront}
+use Rattle.htag.proofs.Vocabulary.{ℕ, List, [], sym, ap, ◌∙◌, subst, arith, list_all, string_bytes, chars, is_clean, clean_rest, IsQuietFront}
 use Rattle.htag.proofs.Ascii.{edge_of}
 use Rattle.htag.proofs.QuietValues.{more_read, nothing_read}
 use Rattle.htag.proofs.piece.ValueWalk.read_quiet.Goals as goal
@@ -17,11 +17,3 @@ pub loop-count-preserved : goal.loop-count-preserved
 loop-count-preserved c =
     more_read c.args.table.now c.args.run.now c.loop-count.count c.in_ok-more.more [] _ _ c.loop-count.invariant
     (subst (λ (x : List ℕ). IsQuietFront c.args.table.now x c.in_ok-more.more (string_bytes c.loop-count.self.text) (string_bytes c.read_front.new.self.text)) c.range_from.ensures.value (c.in_ok-more.ensures (omega (arith, c.if-more-eq0.false))))
-
-pub overflow_add-count : goal.overflow_add-count
-overflow_add-count c = omega (arith, (c.in_ok-more.ensures (omega (arith, c.if-more-eq0.false))).cut.within, ap length c.range_from.ensures.value, length-drop c.loop-count.count c.args.run.now, c.loop-count.invariant.cut.within)
-
-pub returns : goal.returns
-returns c = λ yes.
-    let all : c.loop-count.count ≡ length c.args.run.now = omega (arith, c.loop-count.invariant.cut.within, c.loop-count-test.false) in
-    subst (λ (n : ℕ). IsQuietFront c.args.table.now c.args.run.now n [] (string_bytes c.loop-count.self.text)) all c.loop-count.invariant

@@ -1,4 +1,4 @@
-use Rattle.htag.proofs.Vocabulary.{◌≡◌, ◌++◌, ◌∷◌, ◌∙◌, [], ℕ, Bool, List, UnexpectedCharacterInUnquotedAttributeValue, ParseError, error_if, null_errors, append_assoc, all, ap, encode_utf8, string_bytes, true, without_null, refl, sym, append-nil, arith, nat_tests, on_ok_weaker, is_no_reference}
+use Rattle.htag.proofs.Vocabulary.{◌≡◌, ◌++◌, ◌∷◌, ◌∙◌, [], ℕ, Bool, List, UnexpectedCharacterInUnquotedAttributeValue, ParseError, error_if, null_errors, append_assoc, all, ap, encode_utf8, string_bytes, true, without_null, refl, sym, append-nil, arith, nat_tests, is_no_reference}
 use Rattle.htag.proofs.InValue.{plain_steps, amp_step}
 use Rattle.htag.proofs.Pieces.{plain_raises}
 use Rattle.htag.proofs.piece.ValueWalk.take_next.Goals as goal
@@ -10,12 +10,12 @@ returns-then-next-ne38 c =
     let before = c.args.errors.now.items in
     let null = null_errors (p ∷ []) in
     let raised = c.in_ok-keep_if.ensures ∙ ap (λ (b : Bool). before ++ error_if b UnexpectedCharacterInUnquotedAttributeValue p.at) c.is_fault.ensures in
-    on_ok_weaker c.push_value.result
-    (λ bytes. record {
+    record {
       more = _;
       later_is = c.in_ok-keep_null.ensures ∙ ap (λ (x : List ParseError). x ++ null) raised ∙ append_assoc before _ null ∙ ap (λ (x : List ParseError). before ++ x) (sym (plain_raises c.args.quoted _));
-      takes = λ text own h. plain_steps _ _ _ text (p ∷ []) own h c.requires _ refl (bytes ∙ ap (λ (x : List ℕ). string_bytes c.args.self.now.text ++ x) (sym (append-nil (encode_utf8 (without_null p.ch))))) plain;
-    }) c.push_value.ensures
+      takes = λ text own h.
+          plain_steps _ _ _ text (p ∷ []) own h c.requires _ refl (c.in_ok-push.ensures.bytes ∙ ap (λ (x : List ℕ). string_bytes c.args.self.now.text ++ x) (ap encode_utf8 c.kept.ensures ∙ sym (append-nil (encode_utf8 (without_null p.ch))))) plain;
+    }
 
 pub returns : goal.returns
 returns c = record {

@@ -1,13 +1,7 @@
 use Rattle.htag.proofs.Vocabulary.{◌≡◌, ◌≤◌, ◌+◌, ◌∙◌, ℕ, length, get_or, refl, arith}
 use Rattle.std.proofs.Common.{get_or-set_same, get_or-set_other}
-use Rattle.htag.proofs.Stamps.{resized, stamped, marked, no_stamp}
+use Rattle.htag.proofs.Stamps.{resized, marked, no_stamp}
 use Rattle.htag.proofs.seen.Seen.add.Goals as goal
-
-pub invariant_of-self-2 : goal.invariant_of-self-2
-invariant_of-self-2 c =
-    let old = c.args.self.now in
-    let items = resized old.stamps.items c.resize.new.self.items (c.args.number + 1) _ (omega (arith, c.if-number-len.false)) c.in_ok-resize.ensures.items in
-    record { begun = old.begun; older = stamped c.resize.new.self.items c.args.number old.tag (λ m. omega (arith, items m, old.older m)) }
 
 pub returns : goal.returns
 returns c = λ numbers h.

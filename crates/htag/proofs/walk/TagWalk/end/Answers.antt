@@ -1,5 +1,4 @@
-use Rattle.std.proofs.Common.{inl, inr}
-use Rattle.htag.proofs.Vocabulary.{true, false, refl, MatchResult-weaker}
+use Rattle.htag.proofs.Vocabulary.{true, false, refl, MatchResult-weaker, inl, inr}
 use Rattle.htag.proofs.Cut.{cut_in_name, cut_before_attribute, cut_after_solidus, cut_after_name, cut_before_value, cut_in_quotes, cut_in_unquoted, cut_after_quotes}
 use Rattle.htag.proofs.walk.TagWalk.end.Goals as goal
 

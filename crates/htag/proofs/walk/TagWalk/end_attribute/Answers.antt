@@ -8,6 +8,3 @@ returns-clause-ended c =
     (c.keep.ensures.keeps c.args.names.now c.intern.new.self (walked_attribute c.args.self.now) c.in_ok-name.ensures.grows c.in_ok-name.ensures.names
     (ap (slice_get c.intern.new.self) (ap (λ (a : Attr). a.name) c.in_ok-attr.ensures) ∙ c.in_ok-name.ensures.number ∙ ap (λ (x : List ℕ). Some x) c.deref.ensures) (ap (λ (a : Attr). a.value) c.in_ok-attr.ensures ∙ c.deref-2.ensures) refl)
     c.keep.ensures.memory
-
-pub returns-clause-grows : goal.returns-clause-grows
-returns-clause-grows c = c.in_ok-name.ensures.grows

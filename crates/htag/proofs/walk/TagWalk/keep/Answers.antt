@@ -1,5 +1,4 @@
-use Rattle.htag.proofs.Vocabulary.{◌∷◌, [], ℕ, List, sym, refl, ap, ◌∙◌, append-nil, ◌++◌, error, ParseError}
-use Rattle.names.specs.declared.error.ErrorCode.TheVariants.{DuplicateAttribute}
+use Rattle.htag.proofs.Vocabulary.{◌∷◌, [], ℕ, List, sym, refl, ap, ◌∙◌, append-nil, ◌++◌, error, ParseError, DuplicateAttribute}
 use Rattle.htag.proofs.Ending.{first_ends, repeated_ends}
 use Rattle.htag.proofs.walk.TagWalk.keep.Goals as goal
 
@@ -15,8 +14,8 @@ returns-in_ok-push-clause-keeps c = λ before after it grows are number value at
           (e.0, sym (ap (λ (x : List ParseError). c.args.errors.now.items ++ x) e.1 ∙ append-nil c.args.errors.now.items));
     }
 
-pub returns-in_ok-push-2-clause-keeps : goal.returns-in_ok-push-2-clause-keeps
-returns-in_ok-push-2-clause-keeps c = λ before after it grows are number value at.
+pub returns-in_ok-keep_if-clause-keeps : goal.returns-in_ok-keep_if-clause-keeps
+returns-in_ok-keep_if-clause-keeps c = λ before after it grows are number value at.
     let seen = (rw (c.index-number.ensures, c.name.ensures) at c.in_ok-add.ensures) in
     record {
       kind_is = refl;
@@ -24,5 +23,5 @@ returns-in_ok-push-2-clause-keeps c = λ before after it grows are number value 
       name_is = refl;
       ends = λ parts part is h.
           let e = repeated_ends before after grows are c.args.self.now _ it c.args.attr.name number _ seen refl parts part is h c.if-branch.false refl in
-          (e.0, c.in_ok-push-2.ensures.items ∙ ap (λ (n : ℕ). c.args.errors.now.items ++ error DuplicateAttribute n ∷ []) (sym at) ∙ ap (λ (x : List ParseError). c.args.errors.now.items ++ x) (sym e.1));
+          (e.0, c.in_ok-keep_if.ensures ∙ ap (λ (n : ℕ). c.args.errors.now.items ++ error DuplicateAttribute n ∷ []) (sym at) ∙ ap (λ (x : List ParseError). c.args.errors.now.items ++ x) (sym e.1));
     }

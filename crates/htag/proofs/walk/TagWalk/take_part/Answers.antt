@@ -1,10 +1,6 @@
 use Rattle.htag.proofs.Vocabulary.{◌∙◌, ℕ, List, sym, ap, arith, slice_get, slice_index, err_from_is_err_and, grows_not, chars}
-use Rattle.std.proofs.lemmas.Str.{len_utf8_bounds}
 use Rattle.htag.proofs.InRun.{after_none, begins_end, begins_with, first_front, first_refused}
 use Rattle.htag.proofs.walk.TagWalk.take_part.Goals as goal
-
-pub returns-in_err-count-clause-front : goal.returns-in_err-count-clause-front
-returns-in_err-count-clause-front c = let e = err_from_is_err_and c.from_residual.result c.from_residual.ensures.1 in rw (e.1, e.2) c.in_err-count.ensures
 
 pub returns-then-ends_name-clause-front : goal.returns-then-ends_name-clause-front
 returns-then-ends_name-clause-front c =
@@ -37,6 +33,3 @@ returns-clause-front c =
     let first = begins_with (chars run) ch (ap (λ (bs : List ℕ). slice_get (chars bs) 0) (sym c.chars.ensures.rest) ∙ sym c.next.ensures.steps.2 ∙ c.unwrap-ch.ensures) in
     after_none _ _ _ _ _ _ run _ _ _ _ _ _ c.in_ok-count.ensures _ (omega (arith, c.if-count-gt0.false))
     (first_front _ _ _ _ run first.0 _ _ _ _ ch first.1 _ c.in_ok-ended-2.ended c.len_utf8.ensures.value c.utf8.run c.take_char.ensures.grows c.in_ok-ended-2.ensures.kind c.in_ok-ended-2.ensures.takes)
-
-pub returns-clause-some : goal.returns-clause-some
-returns-clause-some c = omega (arith, c.len_utf8.ensures.value, (len_utf8_bounds c.unwrap-ch.result).0)

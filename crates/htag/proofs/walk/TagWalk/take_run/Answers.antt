@@ -1,4 +1,4 @@
-use Rattle.htag.proofs.Vocabulary.{◌++◌, ℕ, List, ap, ◌∙◌, take, length, arith, length-drop, list_all, err_from_is_err_and, Placed, placed, grows_on, IsInTag, subst, chars, is_clean, clean_rest, next_at}
+use Rattle.htag.proofs.Vocabulary.{◌++◌, ℕ, List, ap, ◌∙◌, take, arith, list_all, err_from_is_err_and, Placed, placed, IsInTag, subst, chars, is_clean, clean_rest, next_at}
 use Rattle.htag.proofs.Ascii.{edge_of}
 use Rattle.htag.proofs.InRun.{front_more, known_in_rest, next_end, none_front}
 use Rattle.htag.proofs.Keeping.{looks_ahead}
@@ -13,9 +13,6 @@ range_from-requires c = λ _. edge_of c.loop-count.count c.args.run.now c.loop-c
 pub take_part-requires-clause-clean : goal.take_part-requires-clause-clean
 take_part-requires-clause-clean c =
     ap (λ (x : List ℕ). list_all is_clean (chars x)) c.range_from.ensures.value ∙ (clean_rest c.loop-count.count c.args.run.now c.loop-count.invariant.cut c.requires.clean).1
-
-pub overflow_add-count : goal.overflow_add-count
-overflow_add-count c = omega (arith, c.in_ok-more.ensures.front.cut.within, ap length c.range_from.ensures.value, length-drop c.loop-count.count c.args.run.now, c.loop-count.invariant.cut.within)
 
 pub loop-count-preserved : goal.loop-count-preserved
 loop-count-preserved c = rw c.if-ended.false at (front_more _ _ _ _ _ _ _ _ _ _ _ _ _ c.loop-count.invariant _ c.range_from.ensures.value c.in_ok-more.more c.in_ok-more.ended c.in_ok-more.ensures.front)
@@ -32,13 +29,7 @@ returns-in_err-more-clause-takes c =
     let run = c.args.run.now in
     rw (e.1, e.2) (λ body h. c.in_err-more.ensures.front.takes _ (known_in_rest _ _ _ _ _ at c.loop-count.count run _ c.range_from.ensures.value (c.loop-count.invariant.takes body (looks_ahead _ _ _ body _ h (next_at at run 0)))))
 
-pub returns-in_err-more-clause-grows : goal.returns-in_err-more-clause-grows
-returns-in_err-more-clause-grows c = grows_on _ _ _ c.loop-count.invariant.grows c.take_part.ensures.front.grows
-
 pub returns-clause-takes : goal.returns-clause-takes
 returns-clause-takes c = λ body h.
     subst (λ (x : List Placed). IsInTag c.args.table.now c.loop-count.names c.loop-count.self (body ++ placed c.args.at (chars (take c.loop-count.count c.args.run.now))) x c.loop-count.errors.items)
     (next_end c.args.at c.loop-count.count c.args.run.now (omega (arith, c.loop-count-test.false))) (c.loop-count.invariant.takes body (looks_ahead _ _ _ body _ h (next_at c.args.at c.args.run.now 0)))
-
-pub returns-clause-some : goal.returns-clause-some
-returns-clause-some c = λ some. omega (arith, some, c.loop-count-test.false)

@@ -1,6 +1,4 @@
-use Rattle.std.specs.Prelude.{Ok}
-use Rattle.htag.proofs.Vocabulary.{◌-◌, false, length}
-use Rattle.htag.specs.Run.{TakesFront}
+use Rattle.htag.proofs.Vocabulary.{◌-◌, false, length, Ok, TakesFront}
 use Rattle.htag.proofs.walk.TagWalk.take_run.Given as goal
 
 -- This many bytes of the run have been taken.

@@ -1,8 +1,0 @@
-use Rattle.htag.proofs.Vocabulary.{◌∙◌, ap, Bool, ◌++◌, not, MissingWhitespaceBetweenAttributes, error_if}
-use Rattle.htag.proofs.Values.{quoted_ends}
-use Rattle.htag.proofs.walk.TagWalk.after_attribute_value_quoted.Goals as goal
-
-pub returns-clause-takes : goal.returns-clause-takes
-returns-clause-takes c = λ table body h.
-    c.past_attribute.ensures.takes table body (λ after walk later ends. quoted_ends _ _ _ body _ _ h _ after walk later c.requires
-    (c.in_ok-keep_if.ensures ∙ ap (λ (b : Bool). c.args.errors.now.items ++ error_if (not b) MissingWhitespaceBetweenAttributes c.args.next.at) c.ends_name.ensures) ends)
