@@ -1,5 +1,5 @@
 -- Tags that stand whole in a run.
-use Rattle.htoken.proofs.Names.{◌≡◌, ◌≤◌, ◌<◌, ℕ, suc, ◌+◌, ◌-◌, true, false, ◌||◌, List, [], ◌∷◌, ◌++◌, length, take, drop, sym, refl, ap, ◌∙◌, subst, Result, Ok, Err, Option, Some, None, append-nil, arith, length-take-le, chars-nil, codes, is_some, slice_get, slice_index, list_all, chars, IsUtf8, ParseError, Placed, RawKind, RefusedName, Refusal, Memory, Texts, Grows, name_bytes, placed, raw_kind, refused_name, tag_named, is_plain_byte, IsCut, plain_chars, hand_one, Entities, IsInTag, State, Tokenizer, IsSpanOf, next, TakesPart, IsTag, start_tag, end_tag, tag_mark, Tok, Span, Start, End, Item, ItemToken, Event, HandedMeans, gives_item, has_refused, Reads, HasTaken, holds, Takes, take_took, IsHeld, IsLast, less, after_last, slice_range, IsBareName, bare_bytes, bare_front, bare_no_errors, bare_placed, bare_plain, bare_within, tag, get_or, get_or-append_seam, IsCharBoundary, Handed, IsTagName, IsStateOf, named_plain, named_within}
+use Rattle.htoken.proofs.Names.{◌≡◌, ◌≤◌, ◌<◌, ℕ, suc, ◌+◌, ◌-◌, true, false, ◌||◌, List, [], ◌∷◌, ◌++◌, length, take, drop, sym, refl, ap, ◌∙◌, subst, Result, Ok, Err, Option, Some, None, append-nil, arith, length-drop, take_all, length-take-le, chars-nil, codes, is_some, slice_get, slice_index, list_all, chars, IsUtf8, ParseError, Placed, RawKind, RefusedName, Refusal, Memory, Texts, Grows, name_bytes, placed, raw_kind, refused_name, tag_named, is_plain_byte, IsCut, plain_chars, hand_one, Entities, IsInTag, State, Tokenizer, IsSpanOf, next, TakesPart, IsTag, start_tag, end_tag, tag_mark, Tok, Span, Start, End, Item, ItemToken, Event, HandedMeans, gives_item, has_refused, Reads, HasTaken, holds, Takes, take_took, IsHeld, IsLast, less, after_last, slice_range, IsBareName, bare_bytes, bare_front, bare_no_errors, bare_placed, bare_plain, bare_within, tag, get_or, get_or-append_seam, IsCharBoundary, Handed, IsStateOf, named_plain, named_within}
 use Rattle.std.proofs.lemmas.Str.{IsCharBoundary-before_ascii}
 use Rattle.names.specs.declared.raw.RawKind.TheVariants as kind
 use Rattle.htoken.specs.declared.state.State.TheVariants as state
@@ -35,6 +35,10 @@ first_is (x ∷ xs) some is = ap (λ (y : ℕ). y ∷ xs) is
 pub range_after_first : (size : ℕ) (run : List ℕ) → slice_range run 1 (size + 1) ≡ take size (drop 1 run)
 range_after_first size run = let long : size + 1 - 1 ≡ size = omega arith in ap (λ (n : ℕ). take n (drop 1 run)) long
 
+-- what is known of a name after the first byte
+pub bare_here : {size : ℕ} {run bytes : List ℕ} → bytes ≡ run → 0 < size → (0 < size → IsBareName (take (length bytes - 1) (drop 1 bytes)) size) → IsBareName (drop 1 run) size
+bare_here {size} {run} {bytes} same some named = subst (λ (x : List ℕ). IsBareName x size) (take_all _ _ (omega (arith, length-drop 1 bytes)) ∙ ap (drop 1) same) (named some)
+
 -- nothing was taken of a run
 pub nothing_taken : {S : Type 0} (gives : S → Item → Result (Unit {0}) Refusal → S → Type 0) (table : Entities) (start : RawKind) (text : List Placed) (taken : List Event) (at : ℕ) (names : Texts) (s : S) (t : Tokenizer) → HasTaken table start t names text taken
     → Takes gives table start text (placed at (chars [])) taken names s (Ok tt) s t
@@ -64,9 +68,6 @@ module _ (run : List ℕ) (size : ℕ) (u : IsUtf8 run) (bare : IsBareName run s
   pub start_cut : IsCut (size + 1) run
   start_cut = plain_cut (size + 1) run (bare_within run size bare) (bare_plain run size bare) u
 
-  start_placed : (at : ℕ) → placed at (chars (take (size + 1) run)) ≡ placed at (bare.letter ∷ bare.letters) ++ record { ch = 62; at = at + size } ∷ []
-  start_placed at = ap (placed at) (plain_taken (size + 1) run (bare_within run size bare) (bare_plain run size bare) u) ∙ bare_placed run size bare at
-
   start_next : (text : List Placed) (at : ℕ) → at + length run ≤ 0xFFFFFFFFFFFFFFFF → at + size + 1 ≡ after_last (text ++ placed at (chars (take (size + 1) run)))
   start_next text at room =
       let one : at + size + 1 ≡ at + (size + 1) = omega arith in
@@ -92,10 +93,6 @@ module _ (run rest : List ℕ) (size : ℕ) (u : IsUtf8 run) (run_is : run ≡ 4
   end_next text at room =
       let two : at + size + 2 ≡ at + (size + 2) = omega arith in
       two ∙ plain_next (size + 2) run end_within end_plain u text at (omega arith) room
-
--- another name
-pub name_cut : (run : List ℕ) (size : ℕ) → IsUtf8 run → IsTagName run size → IsCut size run
-name_cut run size u named = plain_cut size run (named_within [] run size named) (named_plain [] run size named) u
 
 -- WHAT IS AFTER A `<`
 
@@ -165,7 +162,7 @@ module _ (table : Entities) (start : RawKind) (t : Tokenizer) (names : Texts) (t
             let name : List Placed = placed at (bare.letter ∷ bare.letters) in
             let close : List Placed = record { ch = 62; at = at + size } ∷ [] in
             start_tag (less t ∷ []) name [] close false (bare_front run size bare at table end (at + size) (codes "<") (less t ∷ []) more refl) refl
-            (ap (λ (x : List Placed). record { text = less t ∷ x; tokens = Start (take size run) [] false t.at ∷ []; errors = [] }) (start_placed run size u bare at)
+            (ap (λ (x : List Placed). record { text = less t ∷ x; tokens = Start (take size run) [] false t.at ∷ []; errors = [] }) (ap (placed at) (plain_taken (size + 1) run (bare_within run size bare) (bare_plain run size bare) u) ∙ bare_placed run size bare at)
             ∙ ap (λ (x : List Placed). record { text = x ++ close; tokens = Start (take size run) [] false t.at ∷ []; errors = [] }) (sym (append-nil (less t ∷ name)))
             ∙ ap (λ (x : List ℕ). record { text = ((less t ∷ name) ++ []) ++ close; tokens = Start x [] false t.at ∷ []; errors = [] }) (sym (bare_bytes run size bare at))
             ∙ ap (λ (x : List ParseError). record { text = ((less t ∷ name) ++ []) ++ close; tokens = Start (name_bytes name) [] false t.at ∷ []; errors = x }) (sym (bare_no_errors run size bare at)))

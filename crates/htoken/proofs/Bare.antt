@@ -3,7 +3,7 @@ use Rattle.htoken.proofs.Names.{◌≡◌, ◌≤◌, ◌<◌, ℕ, zero, suc, �
 use Rattle.htoken.specs.declared.state.State.TheVariants as state
 use Rattle.htag.proofs.Ascii.{ascii_chars, ascii_placed, ascii_taken}
 use Rattle.htag.proofs.QuietValues.{length-placed}
-use Rattle.htoken.proofs.Fronts.{takes_both}
+use Rattle.htoken.proofs.Going.{takes_both}
 use Rattle.htoken.proofs.Going.{after_last-snoc}
 use Rattle.htoken.proofs.InReference.{no_script}
 use Rattle.htoken.proofs.InRun.{next_ascii}
@@ -40,10 +40,6 @@ alone_bare table kind (a ∷ b ∷ rest) may amp long other sign ascii = record 
       alone (record { ch = 38; at = at }) refl none refl;
 }
 
--- places do not matter to a test
-all_unplaced : (test : ℕ → Bool) (at : ℕ) (xs : List ℕ) → all test (placed at xs) ≡ true → list_all test xs ≡ true
-all_unplaced test at xs h = sym (all-characters test (placed at xs) ∙ ap (list_all test) (characters_placed at xs)) ∙ h
-
 -- a front that passes is counted
 counted_long : (test : ℕ → Bool) (xs : List ℕ) (k : ℕ) → k ≤ length xs → list_all test (take k xs) ≡ true → k ≤ prefix_len test xs
 counted_long test xs zero within h = omega arith
@@ -68,7 +64,7 @@ module _ (table : Entities) (kind : RawKind) (bytes : List ℕ) (found : Referen
   count = prefix_len is_alphanumeric bytes
 
   letters_read : list_all is_alphanumeric (take k bytes) ≡ true
-  letters_read = all_unplaced is_alphanumeric 0 (take k bytes) ((read 0 []).run is_ambiguous).1
+  letters_read = sym (all-characters is_alphanumeric (placed 0 (take k bytes)) ∙ ap (list_all is_alphanumeric) (characters_placed 0 (take k bytes))) ∙ ((read 0 []).run is_ambiguous).1
 
   few : k ≤ count
   few = counted_long is_alphanumeric bytes k within letters_read
@@ -118,13 +114,10 @@ module _ (table : Entities) (kind : RawKind) (bytes : List ℕ) (found : Referen
         let none : length text - found.left ≡ 0 = omega (arith, (r.run is_ambiguous).0) in
         subst (λ (n : ℕ). IsReference table false (drop n text ++ after) (record { text = amp ∷ take n text; gives = characters_of found.characters; errors = errors_of found at after })) none (r.reads amp refl)
 
-    error_is : error_if (begins (λ c. eqb c 59) (past is_alphanumeric (text ++ after))) UnknownNamedCharacterReference at ≡ error_if (eqb next 59) UnknownNamedCharacterReference at
-    error_is = ap (later_errors at) rest_is ∙ later_same at (placed (at + 1) letters) (last ∷ more) (all_placed is_alphanumeric (at + 1) letters plain) ∙ later_told at last more other
-
     pub bare_is : IsReference table false (placed (at + 1) letters ++ last ∷ more) (ampersand amp (error_if (eqb next 59) UnknownNamedCharacterReference at))
     bare_is =
         subst (λ (x : List Placed). IsReference table false x (ampersand amp (error_if (eqb next 59) UnknownNamedCharacterReference at))) rest_is
-        (subst (λ (es : List ParseError). IsReference table false (text ++ after) (ampersand amp es)) error_is
+        (subst (λ (es : List ParseError). IsReference table false (text ++ after) (ampersand amp es)) (ap (later_errors at) rest_is ∙ later_same at (placed (at + 1) letters) (last ∷ more) (all_placed is_alphanumeric (at + 1) letters plain) ∙ later_told at last more other)
         (subst (λ (x : Piece). IsReference table false (text ++ after) x) (unknown_is table (text ++ after) _ amp found_at refl (letters_begin (at + 1) after)) found_at))
 
   pub letters_bare : (run : List ℕ) → run ≡ 38 ∷ bytes → has_references kind ≡ true → count < length bytes → is_ascii (slice_index bytes count) ≡ true → IsBare table kind run (1 + count)
@@ -166,9 +159,6 @@ whole_is table kind run bytes found count may is_table is within ascii known lef
   left = left;
   reads = reads;
 }
-
-pub whole_within : (table : Entities) (kind : RawKind) (run : List ℕ) (found : Reference) (count : ℕ) → IsWhole table kind run found count → count < length run
-whole_within table kind run found count is = omega (arith, is.count_is, ap length is.run_is, length-append (38 ∷ is.shown) is.others)
 
 -- the run up to where it is shown
 module _ (table : Entities) (kind : RawKind) (run : List ℕ) (u : IsUtf8 run) (found : Reference) (count : ℕ) (is : IsWhole table kind run found count) where
@@ -267,12 +257,6 @@ module _ (table : Entities) (kind : RawKind) (run : List ℕ) (at : ℕ) (u : Is
   mine_placed : length (placed (at + 1) mine) ≡ size
   mine_placed = length-placed (at + 1) mine ∙ mine_long
 
-  own_text : take (length shown_text - found.left) shown_text ≡ placed (at + 1) mine
-  own_text = ap (λ (n : ℕ). take n shown_text) own_size ∙ ap (take size) text_split ∙ take_at (placed (at + 1) mine) (placed (at + (1 + size)) theirs) size mine_placed
-
-  left_text : drop (length shown_text - found.left) shown_text ≡ placed (at + (1 + size)) theirs
-  left_text = ap (λ (n : ℕ). drop n shown_text) own_size ∙ ap (drop size) text_split ∙ drop_at (placed (at + 1) mine) (placed (at + (1 + size)) theirs) size mine_placed
-
   pub first_of_whole : first_placed at run ≡ record { ch = 38; at = at } ∷ []
   first_of_whole = begun_first 38 mine (theirs ++ is.others) run run_split (1 + size) size_is ascii.0 u at
 
@@ -305,8 +289,8 @@ module _ (table : Entities) (kind : RawKind) (run : List ℕ) (at : ℕ) (u : Is
         subst (λ (es : List ParseError). Stands table start end (text ++ (sign ∷ take own shown_text)) (drop own shown_text ++ rest) there (taken ++ piece_events found at) es) later
         (stands_piece table start end text here taken at shown_text own found (ap has_references same ∙ is.may) is.is_table rest rest ((is.reads (at + 1) rest).reads sign refl) before) in
         let part_is : sign ∷ take own shown_text ≡ placed at (chars (take (1 + size) run)) =
-        ap (λ (x : List Placed). sign ∷ x) own_text ∙ sym (begun_text 38 mine (theirs ++ is.others) run run_split (1 + size) size_is ascii.0 u at) in
-        let left_is : drop own shown_text ++ rest ≡ ahead ++ more = ap (λ (x : List Placed). x ++ rest) left_text ∙ next.1 ∙ ap (λ (x : List ℕ). first_placed (at + (1 + size)) x ++ more) (sym mine_left) in
+        ap (λ (x : List Placed). sign ∷ x) (ap (λ (n : ℕ). take n shown_text) own_size ∙ ap (take size) text_split ∙ take_at (placed (at + 1) mine) (placed (at + (1 + size)) theirs) size mine_placed) ∙ sym (begun_text 38 mine (theirs ++ is.others) run run_split (1 + size) size_is ascii.0 u at) in
+        let left_is : drop own shown_text ++ rest ≡ ahead ++ more = ap (λ (x : List Placed). x ++ rest) (ap (λ (n : ℕ). drop n shown_text) own_size ∙ ap (drop size) text_split ∙ drop_at (placed (at + 1) mine) (placed (at + (1 + size)) theirs) size mine_placed) ∙ next.1 ∙ ap (λ (x : List ℕ). first_placed (at + (1 + size)) x ++ more) (sym mine_left) in
         let given : piece_events found at ≡ text_events (known_errors found at) (all_at at cs) = ap (λ (x : List Event). map Reports (known_errors found at) ++ x) (given_is cs at) in
         subst (λ (x : List Placed). Stands table start end (text ++ x) (ahead ++ more) (record here { front = backwards here.front x }) (taken ++ text_events (known_errors found at) (all_at at cs)) []) part_is
         (subst (λ (x : List Placed). Stands table start end (text ++ (sign ∷ take own shown_text)) (ahead ++ more) (record here { front = x }) (taken ++ text_events (known_errors found at) (all_at at cs)) []) (backwards_is here.front (sign ∷ take own shown_text))
@@ -378,19 +362,20 @@ module _ {S : Type 0} (gives : S → Item → Result (Unit {0}) Refusal → S �
         subst (λ (x : List ℕ). Takes gives table start text (placed at (chars x)) taken names old (Ok tt) s new) (take_all own alone_run (omega (arith, all)))
         (all_taken gives table start names text taken t alone_run at own old s (whole_front alone_run alone_utf8 alone_is old s handed) alone_cut all new then (next ∙ whole_next t.table.now t.kind run u found count is text at))
 
-    pub whole_then : (found.left ≡ 0 → ⊥) → (c : ℕ) → c ≡ slice_index run count → (old mid s : S) (answer : Result (Unit {0}) Refusal) (after : Tokenizer) → HandsEvents gives names old (piece_events found at) (Ok tt) mid
-        → ((front : List Placed) (before : List Event) → Reads table start new names front (record { ch = c; at = at + count } ∷ []) before → Takes gives table start front (record { ch = c; at = at + count } ∷ []) before names mid answer s after)
+    pub whole_then : (found.left ≡ 0 → ⊥) → (p : Placed) → p ≡ record { ch = slice_index run count; at = at + count } → (old mid s : S) (answer : Result (Unit {0}) Refusal) (after : Tokenizer) → HandsEvents gives names old (piece_events found at) (Ok tt) mid
+        → ((front : List Placed) (before : List Event) → Reads table start new names front (p ∷ []) before → Takes gives table start front (p ∷ []) before names mid answer s after)
         → Takes gives table start text (placed at (chars (take (count + 1) run))) taken names old answer s after
-    whole_then leaves c c_is old mid s answer after handed takes =
+    whole_then leaves p p_is old mid s answer after handed takes =
         let own_is : own ≡ count = omega (arith, is.left, leaves, few_left t.table.now t.kind run at u found count is) in
         let front : IsTakenFront gives table start t names text taken run at count old mid = subst (λ (n : ℕ). IsTakenFront gives table start t names text taken run at n old mid) own_is (whole_front run u is old mid handed) in
         let cut : IsCut count run = subst (λ (n : ℕ). IsCut n run) own_is (front_whole t.table.now t.kind run at u found count is).cut in
-        let less : count < length run = whole_within t.table.now t.kind run found count is in
+        let less : count < length run = omega (arith, is.count_is, ap length is.run_is, length-append (38 ∷ is.shown) is.others) in
         let here : slice_index (drop count run) 0 ≡ slice_index run count = get_or-drop count run 0 0 ∙ ap (λ (n : ℕ). slice_index run n) (omega arith) in
         let ascii : is_ascii (slice_index (drop count run) 0) ≡ true = subst (λ (n : ℕ). is_ascii (slice_index (drop n run) 0) ≡ true) own_is (left_ascii t.table.now t.kind run at u found count is leaves) in
-        let first = ascii_first (drop count run) (at + count) c cut.back (omega (arith, less, length_left count run cut.within)) (c_is ∙ sym here) ascii in
+        let first = ascii_first (drop count run) (at + count) (slice_index run count) cut.back (omega (arith, less, length_left count run cut.within)) (sym here) ascii in
+        let only : record { ch = slice_index run count; at = at + count } ∷ [] ≡ p ∷ [] = ap (λ (x : Placed). x ∷ []) (sym p_is) in
         let part : List Placed = placed at (chars (take count run)) in
         let reads = front.reads new then (next ∙ ascii_next (text ++ part) at count run cut less (ap is_ascii (sym here) ∙ ascii)) in
-        subst (λ (x : List Placed). Takes gives table start text x taken names old answer s after) (ap (λ (x : List Placed). part ++ x) (sym first.1) ∙ sym (placed_more count 1 run cut first.2 at))
-        (takes_both gives table start text part (record { ch = c; at = at + count } ∷ []) taken front.events names old mid s answer after front.handed
-        (takes (text ++ part) (taken ++ front.events) (subst (λ (x : List Placed). Reads table start new names (text ++ part) x (taken ++ front.events)) first.0 reads)))
+        subst (λ (x : List Placed). Takes gives table start text x taken names old answer s after) (ap (λ (x : List Placed). part ++ x) (sym (first.1 ∙ only)) ∙ sym (placed_more count 1 run cut first.2 at))
+        (takes_both gives table start text part (p ∷ []) taken front.events names old mid s answer after front.handed
+        (takes (text ++ part) (taken ++ front.events) (subst (λ (x : List Placed). Reads table start new names (text ++ part) x (taken ++ front.events)) (first.0 ∙ only) reads)))

@@ -74,9 +74,6 @@ class_of (p ∷ ps) = class_first (eqb p.ch 60) (eqb p.ch 38) ps
 pub past_less : (p : Placed) (rest : List Placed) → p.ch ≡ 60 → class_of (p ∷ rest) ≡ class_less rest
 past_less p rest h = ap (λ (c : ℕ). class_first (eqb c 60) (eqb c 38) rest) h
 
-past_solidus : (p q : Placed) (rest : List Placed) → p.ch ≡ 60 → q.ch ≡ 47 → class_of (p ∷ q ∷ rest) ≡ class_solidus rest
-past_solidus p q rest h k = past_less p (q ∷ rest) h ∙ ap (λ (c : ℕ). class_after c rest) k
-
 pub past_bang : (p q : Placed) (rest : List Placed) → p.ch ≡ 60 → q.ch ≡ 33 → class_of (p ∷ q ∷ rest) ≡ class_bang rest
 past_bang p q rest h k = past_less p (q ∷ rest) h ∙ ap (λ (c : ℕ). class_after c rest) k
 
@@ -93,7 +90,7 @@ opens_less (p ∷ []) rest h = let is : p.ch ≡ 60 = cc in past_less p rest is
 opens_less _ rest h = absurd cc
 
 pub opens_solidus : (opening rest : List Placed) → characters opening ≡ codes "</" → class_of (opening ++ rest) ≡ class_solidus rest
-opens_solidus (p ∷ q ∷ []) rest h = let is : p.ch ≡ 60 = cc in let then : q.ch ≡ 47 = cc in past_solidus p q rest is then
+opens_solidus (p ∷ q ∷ []) rest h = let is : p.ch ≡ 60 = cc in let then : q.ch ≡ 47 = cc in past_less p (q ∷ rest) is ∙ ap (λ (c : ℕ). class_after c rest) then
 opens_solidus _ rest h = absurd cc
 
 pub opens_bang : (opening rest : List Placed) → characters opening ≡ codes "<!" → class_of (opening ++ rest) ≡ class_bang rest

@@ -1,7 +1,7 @@
 -- A run of characters, a part after another.
-use Rattle.htoken.proofs.Names.{◌≡◌, ◌≤◌, ℕ, ◌+◌, List, [], ◌∷◌, ◌++◌, length, take, drop, sym, refl, ap, ◌∙◌, subst, Result, Ok, Err, append_assoc, append-nil, arith, true, list_all, chars, nat_tests, take_all, Placed, RawKind, Refusal, Texts, Grows, grows_on, placed, text_kept, is_plain_byte, IsCut, placed_cut, placed_more, Entities, Token, Tokenizer, Tok, Item, ItemToken, ItemError, Event, Gives, Reports, TokenMeans, Alone, WithNames, token_in, Handed, HandedMeans, Mean, tokens_in, IsRefused, AreFront, HandsEvents, HasTaken, Takes, take_ran_out, take_refused, take_sink_refused, take_took, attrs_kept, all_weaker, is_ascii}
+use Rattle.htoken.proofs.Names.{◌≡◌, ℕ, ◌+◌, List, [], ◌∷◌, ◌++◌, take, drop, sym, refl, ap, ◌∙◌, subst, Result, Ok, Err, append_assoc, append-nil, arith, true, list_all, chars, nat_tests, Placed, RawKind, Refusal, Texts, Grows, grows_on, placed, text_kept, is_plain_byte, IsCut, placed_cut, placed_more, Entities, Token, Tokenizer, Tok, Item, ItemToken, ItemError, Event, Gives, Reports, TokenMeans, Alone, WithNames, token_in, Handed, HandedMeans, Mean, tokens_in, IsRefused, AreFront, HasTaken, Takes, take_ran_out, take_refused, take_sink_refused, take_took, attrs_kept, all_weaker, is_ascii}
 use Rattle.htoken.specs.declared.token.Token.TheVariants as code
-use Rattle.htoken.proofs.Handing.{HandsEvents-append}
+use Rattle.htoken.proofs.Going.{takes_both}
 
 -- a token stands for the same when the table of names has grown
 pub token_kept : (old new : Texts) → Grows old new → (token : Token) (tok : Tok) → TokenMeans old token tok → TokenMeans new token tok
@@ -28,6 +28,9 @@ mean_kept old new grows (ItemError e ∷ items) (Gives tok ∷ events) h = absur
 mean_kept old new grows [] (e ∷ events) h = absurd h
 mean_kept old new grows (i ∷ items) [] h = absurd h
 
+pub placed_same : {part text : List ℕ} {there at : ℕ} → part ≡ text → there ≡ at → placed there (chars part) ≡ placed at (chars text)
+placed_same {part = part} {at = at} same here = ap (λ (a : ℕ). placed a (chars part)) here ∙ ap (λ (x : List ℕ). placed at (chars x)) same
+
 -- plain bytes
 pub plain_ascii : (xs : List ℕ) → list_all is_plain_byte xs ≡ true → list_all is_ascii xs ≡ true
 plain_ascii xs h = all_weaker is_plain_byte is_ascii (λ x plain. grind (arith, plain, nat_tests)) xs h
@@ -43,29 +46,6 @@ module _ {S : Type 0} (gives : S → Item → Result (Unit {0}) Refusal → S �
   refused_longer fed more taken names old new e next then (take_sink_refused r es is handed all) =
       take_sink_refused r es is handed (λ rest end. subst (λ (x : List Placed). AreFront table start (text ++ x) end (taken ++ es)) (sym (append_assoc fed more rest)) (all (more ++ rest) end))
   refused_longer fed more taken names old new e next then (take_took es is handed has) = absurd cc
-
-  longer : (fed more rest : List Placed) → (text ++ fed) ++ (more ++ rest) ≡ text ++ ((fed ++ more) ++ rest)
-  longer fed more rest = append_assoc text fed (more ++ rest) ∙ ap (λ (x : List Placed). text ++ x) (sym (append_assoc fed more rest))
-
-  -- characters after others
-  pub takes_both : (fed more : List Placed) (taken events : List Event) (names : Texts) (old mid new : S) (answer : Result (Unit {0}) Refusal) (next : Tokenizer) → HandsEvents gives names old events (Ok tt) mid
-      → Takes gives table start (text ++ fed) more (taken ++ events) names mid answer new next → Takes gives table start text (fed ++ more) taken names old answer new next
-  takes_both fed more taken events names old mid new answer next given (take_ran_out es e handed is) =
-      take_ran_out (events ++ es) e (HandsEvents-append gives names old mid new events es (Ok tt) given handed)
-      (λ rest end. subst (λ (x : List Event). AreFront table start (text ++ ((fed ++ more) ++ rest)) end x) (append_assoc taken events es)
-      (subst (λ (x : List Placed). AreFront table start x end ((taken ++ events) ++ es)) (longer fed more rest) (is rest end)))
-  takes_both fed more taken events names old mid new answer next given (take_refused name at es e handed is) =
-      take_refused name at (events ++ es) e (HandsEvents-append gives names old mid new events es (Ok tt) given handed)
-      (λ rest end. subst (λ (x : List Event). IsRefused table start (text ++ ((fed ++ more) ++ rest)) end (tokens_in x) name at) (append_assoc taken events es)
-      (subst (λ (x : List Placed). IsRefused table start x end (tokens_in ((taken ++ events) ++ es)) name at) (longer fed more rest) (is rest end)))
-  takes_both fed more taken events names old mid new answer next given (take_sink_refused r es e handed is) =
-      take_sink_refused r (events ++ es) e (HandsEvents-append gives names old mid new events es (Err r) given handed)
-      (λ rest end. subst (λ (x : List Event). AreFront table start (text ++ ((fed ++ more) ++ rest)) end x) (append_assoc taken events es)
-      (subst (λ (x : List Placed). AreFront table start x end ((taken ++ events) ++ es)) (longer fed more rest) (is rest end)))
-  takes_both fed more taken events names old mid new answer next given (take_took es e handed is) =
-      take_took (events ++ es) e (HandsEvents-append gives names old mid new events es (Ok tt) given handed)
-      (subst (λ (x : List Event). HasTaken table start next names (text ++ (fed ++ more)) x) (append_assoc taken events es)
-      (subst (λ (x : List Placed). HasTaken table start next names x ((taken ++ events) ++ es)) (append_assoc text fed more) is))
 
   -- nothing was fed
   pub takes_nothing : (taken : List Event) (names : Texts) (s : S) (t : Tokenizer) → HasTaken table start t names text taken → Takes gives table start text [] taken names s (Ok tt) s t
@@ -90,7 +70,7 @@ module _ {S : Type 0} (gives : S → Item → Result (Unit {0}) Refusal → S �
     part_taken part whole is answer new next (take_sink_refused r es e handed front_is) then = absurd cc
     part_taken part whole is answer new next (take_took es e (items, mean, given) has) then =
         subst (λ (x : List Placed). Takes gives table start text x taken names old answer new next) (sym is)
-        (takes_both front part taken es names old mid new answer next (items, mean_kept before names grows items es mean, given) (then (text ++ front) (taken ++ es) has))
+        (takes_both gives table start text front part taken es names old mid new answer next (items, mean_kept before names grows items es mean, given) (then (text ++ front) (taken ++ es) has))
 
   -- a refusal in a front of a run
   pub cut_refused : (at count : ℕ) (run : List ℕ) → IsCut count run → (taken : List Event) (names : Texts) (old new : S) (e : Refusal) (next then : Tokenizer)
@@ -103,15 +83,15 @@ module _ {S : Type 0} (gives : S → Item → Result (Unit {0}) Refusal → S �
     abbrev pub SoFarCut : Type 0
     SoFarCut = Takes gives table start text (placed at (chars (take count run))) taken before old (Ok tt) mid t
 
-    abbrev pub ThenCut : List ℕ → Result (Unit {0}) Refusal → S → Tokenizer → Type 0
-    ThenCut part = ThenTakes (placed at (chars (take count run))) taken before names grows old mid t (placed (at + count) (chars part))
+    -- what is left is a run of its own
+    module _ (rest : List ℕ) (there : ℕ) (rest_is : rest ≡ drop count run) (there_is : there ≡ at + count) where
+      abbrev pub ThenCut : List ℕ → Result (Unit {0}) Refusal → S → Tokenizer → Type 0
+      ThenCut part = ThenTakes (placed at (chars (take count run))) taken before names grows old mid t (placed there (chars part))
 
-    pub cut_more_taken : (n : ℕ) → IsCut n (drop count run) → (new : S) (next : Tokenizer) → SoFarCut → ThenCut (take n (drop count run)) (Ok tt) new next
-        → Takes gives table start text (placed at (chars (take (count + n) run))) taken names old (Ok tt) new next
-    cut_more_taken n again = part_taken (placed at (chars (take count run))) taken before names grows old mid t (placed (at + count) (chars (take n (drop count run)))) (placed at (chars (take (count + n) run))) (placed_more count n run cut again at) (Ok tt)
+      pub cut_more_taken : (n : ℕ) → IsCut n rest → (new : S) (next : Tokenizer) → SoFarCut → ThenCut (take n rest) (Ok tt) new next → Takes gives table start text (placed at (chars (take (count + n) run))) taken names old (Ok tt) new next
+      cut_more_taken n again = part_taken (placed at (chars (take count run))) taken before names grows old mid t (placed there (chars (take n rest))) (placed at (chars (take (count + n) run)))
+          (placed_more count n run cut (subst (IsCut n) rest_is again) at ∙ ap (λ (ps : List Placed). placed at (chars (take count run)) ++ ps) (sym (placed_same (ap (take n) rest_is) there_is))) (Ok tt)
 
-    pub cut_more_refused : (e : Refusal) (new : S) (next : Tokenizer) → SoFarCut → ThenCut (drop count run) (Err e) new next → Takes gives table start text (placed at (chars run)) taken names old (Err e) new next
-    cut_more_refused e = part_taken (placed at (chars (take count run))) taken before names grows old mid t (placed (at + count) (chars (drop count run))) (placed at (chars run)) (placed_cut count run cut at) (Err e)
-
-    pub cut_all_taken : length run ≤ count → SoFarCut → Takes gives table start text (placed at (chars run)) taken before old (Ok tt) mid t
-    cut_all_taken l h = subst (λ (x : List ℕ). Takes gives table start text (placed at (chars x)) taken before old (Ok tt) mid t) (take_all count run l) h
+      pub cut_more_refused : (e : Refusal) (new : S) (next : Tokenizer) → SoFarCut → ThenCut rest (Err e) new next → Takes gives table start text (placed at (chars run)) taken names old (Err e) new next
+      cut_more_refused e = part_taken (placed at (chars (take count run))) taken before names grows old mid t (placed there (chars rest)) (placed at (chars run))
+          (placed_cut count run cut at ∙ ap (λ (ps : List Placed). placed at (chars (take count run)) ++ ps) (sym (placed_same rest_is there_is))) (Err e)

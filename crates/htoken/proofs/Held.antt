@@ -212,7 +212,7 @@ module _ (table : Entities) (is_table : IsTable table) (start : RawKind) (names 
   by_state state.Doctype is_in has = in_doctype has is_in
   by_state state.Tag is_in has = in_tag has
   by_state state.Reference is_in has = referring is_in has
-  by_state (state.AmbiguousAmpersand amp) is_in has = absurd has
+  by_state state.AmbiguousAmpersand is_in has = absurd has
   by_state state.RcdataLessThanSign is_in has =
       raw_ends is_in has.may has.named 0 (less t ∷ []) [] (string_bytes t.tag.name) (solidus 0 ∷ (as_placed (string_bytes t.tag.name) ++ greater ∷ [])) has.held_is refl refl refl refl
   by_state (state.RcdataEndTagName at) is_in has =

@@ -7,15 +7,15 @@ held_place state.Comment table names here t held (kind, h) = ap (place t.next) (
 held_place state.Doctype table names here t held h = ap (place t.next) (sym h.starts)
 held_place state.Tag table names here t held h = ap (place t.next) (sym h.held_is)
 held_place state.Reference table names here t held h = ap (place t.next) (sym h.held_is)
-held_place (state.AmbiguousAmpersand amp) table names here t held h = absurd h
+held_place state.AmbiguousAmpersand table names here t held h = absurd h
 held_place state.RcdataLessThanSign table names here t held h = ap (place t.next) (sym h.held_is)
 held_place (state.RcdataEndTagName at) table names here t held h = ap (place t.next) (sym h.held_is)
 held_place _ table names here t held h = ap (place t.next) (sym h.0)
 
 -- where something is held, its place is kept
-pub from_held : (s : State) (t : Tokenizer) → (s ≡ state.Text → ⊥) → ((amp : ℕ) → s ≡ state.AmbiguousAmpersand amp → ⊥) → t.at ≡ from_of s t
+pub from_held : (s : State) (t : Tokenizer) → (s ≡ state.Text → ⊥) → (s ≡ state.AmbiguousAmpersand → ⊥) → t.at ≡ from_of s t
 from_held state.Text t text run = absurd (text refl)
-from_held (state.AmbiguousAmpersand amp) t text run = absurd (run amp refl)
+from_held state.AmbiguousAmpersand t text run = absurd (run refl)
 from_held _ t text run = refl
 
 pub holds_from : (table : Entities) (start : RawKind) (t : Tokenizer) (names : Texts) (text : List Placed) (taken : List Event) → HasTaken table start t names text taken → HoldsFrom table start text taken (from_of t.state t)

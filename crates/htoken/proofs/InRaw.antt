@@ -1,13 +1,13 @@
 -- Characters of raw text, and its end tag.
-use Rattle.htoken.proofs.Names.{IsFollowed, ◌≡◌, ℕ, Bool, true, false, cond, ◌&&◌, eqb, List, [], ◌∷◌, ◌++◌, map, length, sym, refl, ap, ◌∙◌, subst, Result, Ok, Err, Option, Some, None, arith, append_assoc, append-nil, eqb-true, slice_get, is_some, nat_lt, MatchResult, Memory, to_ascii_lowercase, string_bytes, UnexpectedNullCharacter, ParseError, Placed, RawKind, Refusal, Texts, lowered, begins, all, is_letter, name_bytes, without_null, error, Entities, backwards, and_parts, and_no, no_null_error, TagWalk, Script, HasFront, level_number, Tokenizer, Span, Item, Event, Gives, Reports, Char, piece_span, Standing, is_raw, is_script, may_end, is_raw_end, name_ends, IsSpan, IsSpanOf, IsRawSpan, has_references, raw_character, raw_end, events_of, HandsEvents, run_events, ends_name, Stands, Reads, Takes, take_sink_refused, IsHeld, IsLast, IsBetween, less, Stays, Keeps, IsInTag, tag_mark, tag_ahead, plain_piece, ends_by, IsInRcdataLessThanSign, IsInRcdataEndTagName, Holds, all-one, IsDataSpan, true≢false}
+use Rattle.htoken.proofs.Names.{is_end_tag_of, IsFollowed, ◌≡◌, ℕ, Bool, true, false, cond, ◌&&◌, eqb, List, [], ◌∷◌, ◌++◌, map, length, sym, refl, ap, ◌∙◌, subst, Result, Ok, Err, Option, Some, None, arith, append_assoc, append-nil, eqb-true, slice_get, is_some, nat_lt, to_ascii_lowercase, string_bytes, UnexpectedNullCharacter, ParseError, Placed, RawKind, Refusal, Texts, lowered, begins, all, is_letter, name_bytes, without_null, error, Entities, backwards, and_parts, and_no, no_null_error, TagWalk, Script, HasFront, level_number, Tokenizer, Span, Item, Event, Gives, Reports, Char, piece_span, Standing, is_raw, is_script, may_end, is_raw_end, name_ends, IsSpan, IsSpanOf, IsRawSpan, has_references, raw_character, raw_end, events_of, HandsEvents, run_events, ends_name, Stands, Reads, Takes, take_sink_refused, IsHeld, IsLast, IsBetween, less, Stays, Keeps, IsInTag, tag_mark, tag_ahead, plain_piece, ends_by, IsInRcdataLessThanSign, IsInRcdataEndTagName, all-one, IsDataSpan, true≢false}
 use Rattle.names.specs.declared.raw.RawKind.TheVariants as kind
 use Rattle.htoken.specs.declared.state.State.TheVariants as state
 use Rattle.htag.specs.declared.kind.TagKind.TheVariants as tag
 use Rattle.htoken.proofs.Cutting.{stands_more}
 use Rattle.htoken.proofs.Going.{goes_on, spans_end}
-use Rattle.htoken.proofs.Reading.{are_front, held_in, kind_in, reads_as, reads_text, ran_out_of}
+use Rattle.htoken.proofs.Reading.{are_front, held_in, kind_in, reads_as, reads_text}
 use Rattle.htoken.proofs.RawNames.{is_word, raw_word, word_letter, some_held}
-use Rattle.htoken.proofs.RawEnds.{differs, goes_past, is_whole, left_some, left_none, letter_not, name_is_lowered, no_solidus, no_name, a_name, other_goes_on, nameless_goes_on, inner_goes_on}
+use Rattle.htoken.proofs.RawEnds.{differs, goes_past, is_whole, left_some, left_none, letter_not, name_is_lowered, no_solidus, no_name, a_name, other_goes_on}
 
 -- a span, by what is read: data, or raw text
 pub span_of : (k : RawKind) (table : Entities) (end : ℕ) (here : Standing) (rest : List Placed) (span : Span) → (is_raw k ≡ false → IsDataSpan table end rest span) → (is_raw k ≡ true → IsRawSpan table end here rest span) → IsSpanOf k table end here rest span
@@ -145,9 +145,9 @@ module _ {S : Type 0} (gives : S → Item → Result (Unit {0}) Refusal → S �
     pub may_not_stand : (is_some t.last && ends_by t.kind (level_number t.script.level)) ≡ false → (more : List Placed) → is_raw_end h.here (p ∷ more) ≡ false
     may_not_stand may more = at_last t.last h.name_is may where
       at_last : (last : Option ℕ) → IsLast names last h.here.name → (is_some last && ends_by t.kind (level_number t.script.level)) ≡ false → is_raw_end h.here (p ∷ more) ≡ false
-      at_last None is e = nameless_goes_on h.here (p ∷ more) is
+      at_last None is e = and_no (may_end h.here.kind h.here.front) (is_end_tag_of h.here.name (p ∷ more)) (ap (λ (n : Option (List ℕ)). is_end_tag_of n (p ∷ more)) is)
       at_last (Some id) is e =
-          inner_goes_on h.here (p ∷ more) (sym may_end_is ∙ e)
+          ap (λ (b : Bool). b && is_end_tag_of h.here.name (p ∷ more)) (sym may_end_is ∙ e)
 
     -- a `<` that may begin the end tag
     pub raw_less_begins : (new : Tokenizer) (s : S) (bytes : List ℕ) → Keeps (record t { at = p.at }) new → new.state ≡ state.RcdataLessThanSign → new.raised.errors.items ≡ t.raised.errors.items → new.tag ≡ t.tag → new.script ≡ t.script → p.ch ≡ 60
@@ -232,13 +232,11 @@ module _ {S : Type 0} (gives : S → Item → Result (Unit {0}) Refusal → S �
           letters = ap (all is_letter) more ∙ all-one is_letter t.held.items p i.letters letter;
         })
 
-    pub letter_held : (new : Tokenizer) (s : S) (c : ℕ) (answer : Result (Unit {0}) Refusal) → MatchResult answer (λ _. Holds t p new) (λ r. r ≡ Memory)
-        → slice_get (string_bytes t.tag.name) (length t.held.items) ≡ Some c → eqb (to_ascii_lowercase p.ch) c ≡ true → Takes gives table start text (p ∷ []) taken names s answer s new
-    letter_held new s c (Err r) is expected same = ran_out_of gives table start text (p ∷ []) names taken t h new s (Err r) (ap (λ (x : Refusal). Err x) is)
-    letter_held new s c (Ok u) i expected same =
+    pub letter_held : (mid : Tokenizer) (s : S) (c : ℕ) → mid.held.items ≡ t.held.items ++ p ∷ [] → slice_get (string_bytes t.tag.name) (length t.held.items) ≡ Some c → eqb (to_ascii_lowercase p.ch) c ≡ true
+        → Takes gives table start text (p ∷ []) taken names s (Ok tt) s (record t { held = mid.held })
+    letter_held mid s c held_is expected same =
         let is : to_ascii_lowercase p.ch ≡ c = eqb-true (to_ascii_lowercase p.ch) c same in
-        subst (λ (x : Tokenizer). Takes gives table start text (p ∷ []) taken names s (Ok tt) s x) (sym i.then)
-        (raw_letter_follows (record t { held = new.held }) s c (record { kind_is = refl; last_is = refl; at_is = refl; stays = (refl, refl, refl) }) after refl refl refl i.held_is expected is (word_letter (string_bytes t.tag.name) (length t.held.items) c p.ch word expected is))
+        raw_letter_follows (record t { held = mid.held }) s c (record { kind_is = refl; last_is = refl; at_is = refl; stays = (refl, refl, refl) }) after refl refl refl held_is expected is (word_letter (string_bytes t.tag.name) (length t.held.items) c p.ch word expected is)
 
     -- no end tag is here
     module _ (other : (more : List Placed) → name_ends (string_bytes t.tag.name) (t.held.items ++ p ∷ more) ≡ false) where

@@ -1,5 +1,5 @@
 -- A character after an `&`, and the input's end there.
-use Rattle.htoken.proofs.Names.{◌≡◌, ℕ, ◌+◌, ◌-◌, ◌≤◌, Bool, true, false, true≢false, ◌&&◌, eqb, List, [], ◌∷◌, ◌++◌, map, length, drop, take, reverse, sym, refl, ap, ◌∙◌, subst, Result, Ok, Err, Option, arith, append_assoc, append-nil, string_bytes, UnknownNamedCharacterReference, ParseError, Placed, RawKind, Refusal, Texts, all, begins, past, is_alphanumeric, error_if, Reference, IsRead, characters_of, errors_of, Entities, IsTable, IsReference, WalkState, and_no, and_parts, Tokenizer, Span, Item, Event, Gives, Reports, Char, piece_span, Standing, next, is_raw, is_script, has_references, known_errors, piece_events, read_events, HandsEvents, run_events, Stays, Stands, Reads, IsInAmbiguousAmpersand, Takes, take_took, take_sink_refused, in_ambiguous_ampersand, IsLast, IsBetween, EndsHeld, held_ended, later_errors, after_last, drop-append-le, take-append-le, drop-append_seam, take-append_seam, CharWalk, is_number, WalkHasTaken, LeavesLast, kept_none, kept_all, kept_nothing, is_other, drop-kept, drop-kept-end, BeginsReference, Finds, HoldsInReference, IsInReference}
+use Rattle.htoken.proofs.Names.{◌≡◌, ℕ, ◌+◌, ◌-◌, ◌≤◌, Bool, true, false, true≢false, ◌&&◌, eqb, List, [], ◌∷◌, ◌++◌, map, length, drop, take, reverse, sym, refl, ap, ◌∙◌, subst, Result, Ok, Err, Option, arith, append_assoc, append-nil, string_bytes, UnknownNamedCharacterReference, ParseError, Placed, RawKind, Refusal, Texts, all, begins, past, is_alphanumeric, error_if, Reference, IsRead, characters_of, errors_of, Entities, IsTable, IsReference, WalkState, and_no, and_parts, Tokenizer, Span, Item, Event, Gives, Reports, Char, piece_span, Standing, next, is_raw, is_script, has_references, known_errors, piece_events, read_events, HandsEvents, run_events, Stands, Reads, IsInAmbiguousAmpersand, Takes, take_took, take_sink_refused, in_ambiguous_ampersand, IsLast, IsBetween, EndsHeld, held_ended, later_errors, after_last, drop-append-le, take-append-le, drop-append_seam, take-append_seam, CharWalk, is_number, WalkHasTaken, LeavesLast, kept_none, kept_all, kept_nothing, is_other, drop-kept, drop-kept-end, BeginsReference, Finds, IsInReference}
 use Rattle.std.proofs.Math.ListN.{length-append}
 use Rattle.names.specs.declared.raw.RawKind.TheVariants as kind
 use Rattle.charref.specs.Held.{held_characters}
@@ -61,21 +61,17 @@ module _ {S : Type 0} (gives : S → Item → Result (Unit {0}) Refusal → S �
       ∙ sym (kept_all next (inside.read ++ p ∷ []) other)
 
   -- the reference goes on
-  pub reference_goes_on : (walk : CharWalk) (new : Tokenizer) (s : S) → HoldsInReference (record t { reference = walk }) p new → (is_number t.reference.state ≡ true → is_number walk.state ≡ true) → WalkHasTaken walk table false (inside.read ++ p ∷ [])
-      → Takes gives table start text (p ∷ []) taken names s (Ok tt) s new
-  reference_goes_on walk new s holds leads walked =
-      let i = inside in
-      let same : new.state ≡ state.Reference = ap (λ (x : Tokenizer). x.state) holds.then ∙ after_amp in
-      let reference : new.reference ≡ walk = ap (λ (x : Tokenizer). x.reference) holds.then in
-      goes_on gives table start text (p ∷ []) names taken t h new s _ same (ap (λ (x : Tokenizer). x.refused) holds.then, ap (λ (x : Tokenizer). x.table) holds.then, ap (λ (x : Tokenizer). x.next) holds.then)
-      (ap (λ (x : Tokenizer). x.kind) holds.then) (ap (λ (x : Tokenizer). x.last) holds.then) may (record {
-        read = i.read ++ p ∷ [];
-        held_is = ap (λ (x : List Placed). x ++ p ∷ []) i.held_is ∙ ap (λ (x : Tokenizer). record { ch = 38; at = x.at } ∷ (i.read ++ p ∷ [])) (sym holds.then);
-        raises_none = ap (λ (x : Tokenizer). x.raised.errors.items) holds.then ∙ i.raises_none;
-        is_table = i.is_table;
-        has_taken = subst (λ (w : CharWalk). WalkHasTaken w table false (i.read ++ p ∷ [])) (sym reference) walked;
-        kept_is = holds.held_is ∙ kept_on walk.state leads (is_number walk.state) refl ∙ ap (λ (w : CharWalk). held_characters w.state (i.read ++ p ∷ [])) (sym reference);
-        between = same_between h.here h.here t new may refl refl (ap (λ (x : Tokenizer). x.tag) holds.then) i.between;
+  pub reference_goes_on : (walk : CharWalk) (mid : Tokenizer) (s : S) → mid.held.items ≡ held_characters walk.state (t.held.items ++ p ∷ []) → (is_number t.reference.state ≡ true → is_number walk.state ≡ true) → WalkHasTaken walk table false (inside.read ++ p ∷ [])
+      → Takes gives table start text (p ∷ []) taken names s (Ok tt) s (record t { reference = walk; held = mid.held })
+  reference_goes_on walk mid s held_is leads walked =
+      goes_on gives table start text (p ∷ []) names taken t h (record t { reference = walk; held = mid.held }) s _ after_amp (refl, refl, refl) refl refl may (record {
+        read = inside.read ++ p ∷ [];
+        held_is = ap (λ (x : List Placed). x ++ p ∷ []) inside.held_is;
+        raises_none = inside.raises_none;
+        is_table = inside.is_table;
+        has_taken = walked;
+        kept_is = held_is ∙ kept_on walk.state leads (is_number walk.state) refl;
+        between = same_between h.here h.here t _ may refl refl refl inside.between;
       })
 
   module _ (found : Reference) (f : Finds table t.reference p found) where
@@ -121,15 +117,14 @@ module _ {S : Type 0} (gives : S → Item → Result (Unit {0}) Refusal → S �
           (subst (λ (x : List Placed). IsReference table false (x ++ after) (record { text = amp ∷ take (length (read ++ p ∷ []) - found.left) (read ++ p ∷ []); gives = characters_of found.characters; errors = errors_of found t.at after })) a.0
           ((r after).reads amp refl)))
 
-      pub reference_ends : (new : Tokenizer) (old s : S) (answer : Result (Unit {0}) Refusal) → Stays t new → new.kind ≡ t.kind → new.last ≡ t.last → new.state ≡ state.Text → new.raised.errors.items ≡ t.raised.errors.items → new.tag ≡ t.tag
-          → HandsEvents gives names old (piece_events found t.at) answer s → Takes gives table start text (p ∷ []) taken names old answer s new
-      reference_ends new old s answer stays kind last in_text raised tag handed =
+      pub reference_ends : (old s : S) (answer : Result (Unit {0}) Refusal) → HandsEvents gives names old (piece_events found t.at) answer s → Takes gives table start text (p ∷ []) taken names old answer s (record t { state = state.Text })
+      reference_ends old s answer handed =
           let i = inside in
           let there : next h.here span ≡ record h.here { front = reverse whole ++ h.here.front } = next_is h.here whole (known_errors found t.at) (characters_of found.characters) (gives_some table [] _ i.is_table (is_reference [])) in
           spans_end gives table start text (p ∷ []) names taken t h span (ap (λ (x : List Placed). x ++ p ∷ []) (sym i.held_is))
           (λ end more. reference_is table end h.here more (record { text = whole; gives = characters_of found.characters; errors = known_errors found t.at }) may (is_reference more)) (no_tag (characters_of found.characters) t.at)
-          new old s answer stays (kind ∙ h.kind_is ∙ sym (ap (λ x. x.kind) there)) (subst (λ (x : Option (List ℕ)). IsLast names new.last x) (sym (ap (λ x. x.name) there)) (subst (λ (x : Option ℕ). IsLast names x h.here.name) (sym last) h.name_is)) in_text (raised ∙ i.raises_none)
-          (same_between h.here (next h.here span) t new may (ap (λ x. x.kind) there) (ap (λ x. x.name) there) tag i.between) handed
+          _ old s answer (refl, refl, refl) (h.kind_is ∙ sym (ap (λ x. x.kind) there)) (subst (λ (x : Option (List ℕ)). IsLast names t.last x) (sym (ap (λ x. x.name) there)) h.name_is) refl i.raises_none
+          (same_between h.here (next h.here span) t _ may (ap (λ x. x.kind) there) (ap (λ x. x.name) there) refl i.between) handed
 
     -- it ends before
     module _ (some : found.left ≡ 0 → ⊥) where
@@ -170,30 +165,27 @@ module _ {S : Type 0} (gives : S → Item → Result (Unit {0}) Refusal → S �
       reference_refused new old s e handed = take_sink_refused e given refl handed (λ more end. are_front refl (stands_before end more))
 
       -- what does not belong to it is read again
-      pub reference_ended : (new : Tokenizer) → found.is_ambiguous ≡ false → Stays t new → new.kind ≡ t.kind → new.last ≡ t.last → new.state ≡ state.Text → new.raised.errors.items ≡ t.raised.errors.items → new.tag ≡ t.tag
-          → Reads table start new names text (p ∷ []) (taken ++ given)
-      reference_ended new told stays kind last in_text raised tag =
-          reads_text after (stays.0 ∙ h.accepts) (ap (λ x. x.now) stays.1 ∙ h.table_is) (stays.2 ∙ h.next_is)
+      pub reference_ended : found.is_ambiguous ≡ false → Reads table start (record t { state = state.Text }) names text (p ∷ []) (taken ++ given)
+      reference_ended told =
+          reads_text after h.accepts h.table_is h.next_is
           (λ end more. subst (λ (b : Bool). Stands table start end text (p ∷ more) after (taken ++ given) (error_if (b && begins (λ c. eqb c 59) (past is_alphanumeric more)) UnknownNamedCharacterReference t.at)) told (stands_before end more))
-          (kind ∙ h.kind_is) (subst (λ (x : Option ℕ). IsLast names x h.here.name) (sym last) h.name_is) in_text (raised ∙ inside.raises_none) (same_between h.here after t new may refl refl tag inside.between)
+          h.kind_is h.name_is refl inside.raises_none (same_between h.here after t _ may refl refl refl inside.between)
 
       -- a run of alphanumerics goes on, and its error comes later
-      pub run_begins : (new : Tokenizer) → found.is_ambiguous ≡ true → is_alphanumeric p.ch ≡ true → Stays t new → new.kind ≡ t.kind → new.last ≡ t.last → new.state ≡ state.AmbiguousAmpersand t.at → new.raised.errors.items ≡ t.raised.errors.items → new.tag ≡ t.tag
-          → IsInAmbiguousAmpersand table start new names text (p ∷ []) (taken ++ given)
-      run_begins new told letter stays kind last is_run raised tag = record {
-        accepts = stays.0 ∙ h.accepts;
+      pub run_begins : found.is_ambiguous ≡ true → is_alphanumeric p.ch ≡ true → IsInAmbiguousAmpersand table start (record t { state = state.AmbiguousAmpersand }) names text (p ∷ []) (taken ++ given)
+      run_begins told letter = record {
+        accepts = h.accepts;
         here = after;
-        amp = t.at;
-        state_is = is_run;
-        table_is = ap (λ x. x.now) stays.1 ∙ h.table_is;
-        next_is = stays.2 ∙ h.next_is;
+        state_is = refl;
+        table_is = h.table_is;
+        next_is = h.next_is;
         stands = λ end more. subst (Stands table start end text (p ∷ more) after (taken ++ given)) (sym (later_on t.at p more letter))
             (subst (λ (b : Bool). Stands table start end text (p ∷ more) after (taken ++ given) (error_if (b && begins (λ c. eqb c 59) (past is_alphanumeric more)) UnknownNamedCharacterReference t.at)) told (stands_before end more));
-        kind_is = kind ∙ h.kind_is;
-        name_is = subst (λ (x : Option ℕ). IsLast names x h.here.name) (sym last) h.name_is;
+        kind_is = h.kind_is;
+        name_is = h.name_is;
         may = may;
-        raises_none = raised ∙ inside.raises_none;
-        between = same_between h.here after t new may refl refl tag inside.between;
+        raises_none = inside.raises_none;
+        between = same_between h.here after t _ may refl refl refl inside.between;
       }
 
 -- THE INPUT'S END
@@ -240,28 +232,21 @@ reference_begins gives table start text p names taken t h new s in_text refers i
 
 -- IN A RUN
 
-module _ {S : Type 0} (gives : S → Item → Result (Unit {0}) Refusal → S → Type 0) (table : Entities) (start : RawKind) (text : List Placed) (p : Placed) (names : Texts) (taken : List Event) (t : Tokenizer) (amp : ℕ) (same : t.state ≡ state.AmbiguousAmpersand amp) (h : IsInAmbiguousAmpersand table start t names text (p ∷ []) taken) where
-  amp_is : h.amp ≡ amp
-  amp_is = let e : state.AmbiguousAmpersand h.amp ≡ state.AmbiguousAmpersand amp = sym h.state_is ∙ same in cc
-
-  stands_now : (end : ℕ) (more : List Placed) → Stands table start end text (p ∷ more) h.here taken (later_errors amp (p ∷ more))
-  stands_now end more = subst (λ (a : ℕ). Stands table start end text (p ∷ more) h.here taken (later_errors a (p ∷ more))) amp_is (h.stands end more)
-
+module _ {S : Type 0} (gives : S → Item → Result (Unit {0}) Refusal → S → Type 0) (table : Entities) (start : RawKind) (text : List Placed) (p : Placed) (names : Texts) (taken : List Event) (t : Tokenizer) (h : IsInAmbiguousAmpersand table start t names text (p ∷ []) taken) where
   abbrev one : List Event
   one = Gives (Char p.ch p.at) ∷ []
 
   module _ (letter : is_alphanumeric p.ch ≡ true) where
-    stands_then : (end : ℕ) (more : List Placed) → Stands table start end (text ++ p ∷ []) more (record h.here { front = p ∷ h.here.front }) (taken ++ one) (later_errors amp more)
+    stands_then : (end : ℕ) (more : List Placed) → Stands table start end (text ++ p ∷ []) more (record h.here { front = p ∷ h.here.front }) (taken ++ one) (later_errors t.at more)
     stands_then end more =
-        subst (Stands table start end (text ++ p ∷ []) more (record h.here { front = p ∷ h.here.front }) (taken ++ one)) (append-nil (later_errors amp (p ∷ more)) ∙ later_on amp p more letter)
-        (stands_on table start end text more h.here taken (plain_span p) (later_errors amp (p ∷ more)) (stands_now end more) (plain_is table end h.here more p (alphanumeric_itself p.ch letter)) refl)
+        subst (Stands table start end (text ++ p ∷ []) more (record h.here { front = p ∷ h.here.front }) (taken ++ one)) (append-nil (later_errors t.at (p ∷ more)) ∙ later_on t.at p more letter)
+        (stands_on table start end text more h.here taken (plain_span p) (later_errors t.at (p ∷ more)) (h.stands end more) (plain_is table end h.here more p (alphanumeric_itself p.ch letter)) refl)
 
     pub run_goes_on : (old s : S) (answer : Result (Unit {0}) Refusal) → HandsEvents gives names old one answer s → Takes gives table start text (p ∷ []) taken names old answer s t
     run_goes_on old s (Ok u) handed = take_took one refl handed (in_ambiguous_ampersand (record {
       accepts = h.accepts;
       here = record h.here { front = p ∷ h.here.front };
-      amp = amp;
-      state_is = same;
+      state_is = h.state_is;
       table_is = h.table_is;
       next_is = h.next_is ∙ ap after_last (sym (append-nil (text ++ p ∷ [])));
       stands = λ end more. stands_then end more;
@@ -275,16 +260,14 @@ module _ {S : Type 0} (gives : S → Item → Result (Unit {0}) Refusal → S �
 
   module _ (other : is_alphanumeric p.ch ≡ false) where
     abbrev told : List ParseError
-    told = error_if (eqb p.ch 59) UnknownNamedCharacterReference amp
+    told = error_if (eqb p.ch 59) UnknownNamedCharacterReference t.at
 
     stands_told_now : (end : ℕ) (more : List Placed) → Stands table start end text (p ∷ more) h.here (taken ++ map Reports told) []
-    stands_told_now end more = stands_told table start end text (p ∷ more) h.here taken told (subst (Stands table start end text (p ∷ more) h.here taken) (later_told amp p more other) (stands_now end more))
+    stands_told_now end more = stands_told table start end text (p ∷ more) h.here taken told (subst (Stands table start end text (p ∷ more) h.here taken) (later_told t.at p more other) (h.stands end more))
 
-    pub run_ended : (new : Tokenizer) → new ≡ record t { state = state.Text } → Reads table start new names text (p ∷ []) (taken ++ map Reports told)
-    run_ended new then =
-        reads_text h.here (ap (λ (x : Tokenizer). x.refused) then ∙ h.accepts) (ap (λ (x : Tokenizer). x.table.now) then ∙ h.table_is) (ap (λ (x : Tokenizer). x.next) then ∙ h.next_is) stands_told_now
-        (ap (λ (x : Tokenizer). x.kind) then ∙ h.kind_is) (subst (λ (x : Option ℕ). IsLast names x h.here.name) (sym (ap (λ (x : Tokenizer). x.last) then)) h.name_is) (ap (λ (x : Tokenizer). x.state) then)
-        (ap (λ (x : Tokenizer). x.raised.errors.items) then ∙ h.raises_none) (same_between h.here h.here t new h.may refl refl (ap (λ (x : Tokenizer). x.tag) then) h.between)
+    pub run_ended : Reads table start (record t { state = state.Text }) names text (p ∷ []) (taken ++ map Reports told)
+    run_ended =
+        reads_text h.here h.accepts h.table_is h.next_is stands_told_now h.kind_is h.name_is refl h.raises_none (same_between h.here h.here t _ h.may refl refl refl h.between)
 
     pub run_refused : (new : Tokenizer) (old s : S) (e : Refusal) → HandsEvents gives names old (map Reports told) (Err e) s → Takes gives table start text (p ∷ []) taken names old (Err e) s new
     run_refused new old s e handed = take_sink_refused e (map Reports told) refl handed (λ more end. are_front refl (stands_told_now end more))

@@ -2,7 +2,7 @@
 use Rattle.htoken.proofs.Names.{◌≡◌, ◌≤◌, ◌<◌, ℕ, zero, suc, ◌+◌, true, false, eqb, ◌||◌, List, [], ◌∷◌, ◌++◌, map, length, take, drop, sym, refl, ap, ◌∙◌, subst, arith, Result, Ok, Err, Option, append_assoc, append-nil, and_from, drop-length, length-append, length-take-le, take_all, take_at, drop_at, nat_tests, chars-IsAscii, chars-nil, list_all, prefix_len, is_ascii, len_utf8, chars, IsUtf8, string_bytes, UnknownNamedCharacterReference, ParseError, Placed, RawKind, Refusal, Texts, all, begins, past, is_alphanumeric, placed, error_if, is_clean, is_plain_character, is_text_byte, IsCut, all_placed, cut_more, placed_cut, placed_more, Entities, Piece, IsReference, named, kept, unknown, decimal, hexadecimal, no_digits, alone, ampersand, backwards, Script, TextWithReferences, Tokenizer, bare_errors, first_placed, IsBare, IsFront, Memory, Tok, Span, Item, Event, Gives, Reports, Char, piece_span, HandsEvents, is_script, run_events, FollowsAll, has_references, Standing, next, tokens_in, errors_in, eof_of, AreFront, Stands, Reads, holds, Takes, take_ran_out, take_took, take_sink_refused, IsLast, IsBetween, after_last, text_front, chars_cut, has_characters, events_with_references, IsTakenFront, length-drop, all_weaker, map-append, drop-drop, Hands, gives_item, run_tokens, Handed, len_utf8_ascii, and_parts}
 use Rattle.htoken.specs.declared.state.State.TheVariants as state
 use Rattle.htag.proofs.Ascii.{ascii_chars, each_ascii, ascii_cut}
-use Rattle.htoken.proofs.Fronts.{takes_both}
+use Rattle.htoken.proofs.Going.{takes_both}
 use Rattle.htoken.proofs.Cutting.{stands_on, tokens_in-append, errors_in-append}
 use Rattle.htoken.proofs.Handing.{HandsEvents-append, reports_given}
 use Rattle.htoken.proofs.Running.{run_given}
@@ -62,16 +62,13 @@ text_events errors ps = map Reports errors ++ run_events ps
 
 -- two texts, one after the other, are one text with the errors of both
 module _ (taken : List Event) (es fs : List ParseError) (xs ys : List Placed) where
-  both_tokens : tokens_in (taken ++ text_events (es ++ fs) (xs ++ ys)) ≡ tokens_in ((taken ++ text_events es xs) ++ text_events fs ys)
-  both_tokens = simp (tokens_in-append, no_tokens_told, tokens_run, map-append (λ (p : Placed). Char p.ch p.at), append_assoc)
-
   both_errors : errors_in (taken ++ text_events (es ++ fs) (xs ++ ys)) ≡ errors_in ((taken ++ text_events es xs) ++ text_events fs ys)
   both_errors = simp (errors_in-append, errors_told, errors_run, append-nil, append_assoc)
 
   pub both_stand : (table : Entities) (start : RawKind) (end : ℕ) (front rest : List Placed) (here : Standing) → Stands table start end front rest here ((taken ++ text_events es xs) ++ text_events fs ys) []
       → Stands table start end front rest here (taken ++ text_events (es ++ fs) (xs ++ ys)) []
   both_stand table start end front rest here s =
-      stands_same table start end front rest here ((taken ++ text_events es xs) ++ text_events fs ys) (taken ++ text_events (es ++ fs) (xs ++ ys)) [] [] both_tokens (ap (λ (x : List ParseError). x ++ []) both_errors) s
+      stands_same table start end front rest here ((taken ++ text_events es xs) ++ text_events fs ys) (taken ++ text_events (es ++ fs) (xs ++ ys)) [] [] (simp (tokens_in-append, no_tokens_told, tokens_run, map-append (λ (p : Placed). Char p.ch p.at), append_assoc)) (ap (λ (x : List ParseError). x ++ []) both_errors) s
 
 -- the errors may come after the text
 module _ (taken : List Event) (errors : List ParseError) (ps : List Placed) where
@@ -226,6 +223,10 @@ module _ (table : Entities) (kind : RawKind) (run : List ℕ) (at : ℕ) where
   front_on n m es fs f g =
       subst (IsFront table kind run at (n + m) (es ++ fs)) (sym (placed_more n m run f.cut g.cut at)) (front_both n m es fs (placed at (chars (take n run))) (placed (at + n) (chars (take m (drop n run)))) f g)
 
+-- the same front of the same run
+pub front_moved : {table : Entities} {kind : RawKind} {run rest : List ℕ} {at there n : ℕ} {errors : List ParseError} {given : List Placed} → rest ≡ run → there ≡ at → IsFront table kind rest there n errors given → IsFront table kind run at n errors given
+front_moved {table = table} {kind = kind} {run = run} {there = there} {n = n} {errors = errors} {given = given} same here front = subst (λ (a : ℕ). IsFront table kind run a n errors given) here (subst (λ (x : List ℕ). IsFront table kind x there n errors given) same front)
+
 -- where nothing is held, and this comes next
 module _ {S : Type 0} (gives : S → Item → Result (Unit {0}) Refusal → S → Type 0) (table : Entities) (start : RawKind) (names : Texts) (text ahead : List Placed) (taken : List Event) (t : Tokenizer) (h : Reads table start t names text ahead taken) (in_text : t.state ≡ state.Text) where
   none : (h.held ≡ []) × (t.raised.errors.items ≡ []) × IsBetween h.here t
@@ -308,7 +309,7 @@ reads_same table start t names text ahead taken others tokens errors h =
 -- text was handed over, and before it its errors
 module _ {S : Type 0} (gives : S → ParseError → Result (Unit {0}) Refusal → S → Type 0) (gives_token : S → Handed → Result (Unit {0}) Refusal → S → Type 0) (table : Entities) (start : RawKind) (names : Texts) (text : List Placed) (taken : List Event) (t : Tokenizer) (h : Reads table start t names text [] taken) (in_text : t.state ≡ state.Text)
     (run : List ℕ) (at count : ℕ) (errors : List ParseError) (front : IsFront t.table.now t.kind run at count errors (placed at (chars (take count run)))) (old mid : S) (told : Hands gives old errors (Ok tt) mid)
-    (new : Tokenizer) (then : new ≡ record t { script = new.script }) (part : List ℕ) (part_is : part ≡ take count run) (follows : is_script t.kind ≡ true → FollowsAll t.script (placed at (chars part)) new.script) where
+    (new : Tokenizer) (then : new ≡ record t { script = new.script }) (part : List Placed) (part_is : part ≡ placed at (chars (take count run))) (follows : is_script t.kind ≡ true → FollowsAll t.script part new.script) where
   abbrev text_part : List Placed
   text_part = placed at (chars (take count run))
 
@@ -320,16 +321,16 @@ module _ {S : Type 0} (gives : S → ParseError → Result (Unit {0}) Refusal �
       let with_references_is : next.with_references ≡ t.with_references = ap (λ (x : Tokenizer). x.with_references) is in
       front_reads (gives_item gives gives_token) table start names text [] taken t h in_text run at count errors text_part front (first_placed at run) refl next
       (is ∙ ap (λ (x : Script). record t { next = next.next; script = x }) (sym script_is) ∙ ap (λ (x : TextWithReferences). record t { next = next.next; script = next.script; with_references = x }) (sym with_references_is)) place
-      (λ script. subst (FollowsAll t.script text_part) (sym script_is) (subst (λ (x : List ℕ). FollowsAll t.script (placed at (chars x)) new.script) part_is (follows script)))
+      (λ script. subst (FollowsAll t.script text_part) (sym script_is) (subst (λ (x : List Placed). FollowsAll t.script x new.script) part_is (follows script)))
 
-  both_told : (s : S) (answer : Result (Unit {0}) Refusal) → Hands gives_token mid (run_tokens (placed at (chars part))) answer s → HandsEvents (gives_item gives gives_token) names old (text_events errors (placed at (chars (take count run)))) answer s
+  both_told : (s : S) (answer : Result (Unit {0}) Refusal) → Hands gives_token mid (run_tokens part) answer s → HandsEvents (gives_item gives gives_token) names old (text_events errors (placed at (chars (take count run)))) answer s
   both_told s answer given = HandsEvents-append (gives_item gives gives_token) names old mid s (map Reports errors) (run_events text_part) answer (reports_given gives gives_token names errors old mid (Ok tt) told)
-      (run_given gives gives_token names mid s text_part answer (subst (λ (x : List ℕ). Hands gives_token mid (run_tokens (placed at (chars x))) answer s) part_is given))
+      (run_given gives gives_token names mid s text_part answer (subst (λ (x : List Placed). Hands gives_token mid (run_tokens x) answer s) part_is given))
 
-  pub text_given : (s : S) → Hands gives_token mid (run_tokens (placed at (chars part))) (Ok tt) s → IsTakenFront (gives_item gives gives_token) table start new names text taken run at count old s
+  pub text_given : (s : S) → Hands gives_token mid (run_tokens part) (Ok tt) s → IsTakenFront (gives_item gives gives_token) table start new names text taken run at count old s
   text_given s given = record { events = text_events errors text_part; handed = both_told s (Ok tt) given; reads = given_reads }
 
-  pub text_refused : (s : S) (e : Refusal) (last : Tokenizer) → Hands gives_token mid (run_tokens (placed at (chars part))) (Err e) s → Takes (gives_item gives gives_token) table start text (placed at (chars run)) taken names old (Err e) s last
+  pub text_refused : (s : S) (e : Refusal) (last : Tokenizer) → Hands gives_token mid (run_tokens part) (Err e) s → Takes (gives_item gives gives_token) table start text (placed at (chars run)) taken names old (Err e) s last
   text_refused s e last given =
       let next : Tokenizer = record new { next = after_last ((text ++ text_part) ++ first_placed (at + count) (drop count run)) } in
       take_sink_refused e (text_events errors text_part) refl (both_told s (Err e) given) (run_front table start next names text run at count (taken ++ text_events errors text_part) front.cut (given_reads next refl refl))

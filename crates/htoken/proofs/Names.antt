@@ -46,7 +46,7 @@ pub use Rattle.htext.specs.Text.{character_of}
 pub use Rattle.htoken.proofs.Results.{err_is}
 pub use Rattle.htoken.specs.Beginning.{inside}
 pub use Rattle.htoken.specs.Data.{is_declaration, IsDataSpan, character_span, less_span, character, bogus_declaration, tag, is_cdata, less_than_last, less_than_solidus_last, is_no_markup, less_than, nothing, comment, doctype, bogus_end_tag, bogus_question, bogus_cdata, comment_span, reference}
-pub use Rattle.htoken.specs.Front.{all_at, bare_errors, first_placed, IsBare, IsFront, IsWhole, AddsReferences, IsGathered, TellsText, events_with_references, IsTakenFront, GivesTextWithReferences}
+pub use Rattle.htoken.specs.Front.{all_at, bare_errors, EndsFront, first_placed, IsBare, IsFront, IsWhole, AddsReferences, IsGathered, TellsText, events_with_references, IsTakenFront, GivesTextWithReferences}
 pub use Rattle.htoken.specs.Giving.{items_of, known_errors, piece_events, read_events, token_items, raises}
 pub use Rattle.htoken.specs.Handing.{HandsEvents}
 pub use Rattle.htoken.specs.HeldFrom.{HoldsFrom, from_of}
@@ -58,11 +58,13 @@ pub use Rattle.htoken.specs.SomeCut.{IsLastName, HasTag}
 pub use Rattle.htoken.specs.SomeEnd.{CanEnd}
 pub use Rattle.htoken.specs.Spans.{IsSpan, raw_character, raw_reference, raw_end, IsSpanOf, has_references, IsRawSpan}
 pub use Rattle.htoken.specs.Standing.{next, Standing, at_start, standing_after, after_tokens}
-pub use Rattle.htoken.specs.Steps.{KeepsIf, IsFollowed, Stays, Keeps, BeginsBogus, GivesSpan, is_out, start_given, EndsTag, start_ended, end_ended, cut_ran_out, cut_given, TakesPart, KeepsFaults, held_in_raw, script_errors, CutsOff, EndsDoctype, doctype_ran_out, doctype_given, BeginsTag, Holds, BeginsReference, Finds, HoldsInReference, EndsStartTag, start_ran_out, tag_ran_out}
+pub use Rattle.htoken.specs.Steps.{IsFollowed, Stays, Keeps, BeginsBogus, GivesSpan, is_out, start_given, EndsTag, start_ended, end_ended, cut_ran_out, cut_given, TakesPart, KeepsFaults, held_in_raw, script_errors, CutsOff, EndsDoctype, doctype_ran_out, doctype_given, BeginsTag, BeginsReference, Finds, EndsStartTag, start_ran_out, tag_ran_out}
 pub use Rattle.htoken.specs.Tag.{start_tag, end_tag, unfinished, tag_mark, IsTag}
 pub use Rattle.htoken.specs.Token.{Span, Event, Tok, is_tag, Handed, Alone, WithNames, token_in, HandedMeans, Item, ItemToken, ItemError, Gives, Reports, Char, Mean, gives_item, Doctype, doctype_token, Start, End, Comment, TokenMeans, Eof, piece_span}
 pub use Rattle.htoken.specs.Tokenizing.{Stands, Reads, IsHeld, IsStateOf, after_place, next_from, after_last, HasTaken, holds, Takes, take_ran_out, take_refused, take_sink_refused, take_took, IsLast, IsBetween, less, EndsHeld, held_ran_out, held_ended, later_errors, IsInMarkup, in_ambiguous_ampersand, IsInMarkedTag, IsInAmbiguousAmpersand, Finishes, finish_ran_out, finish_sink_refused, finish_took, IsInRcdataLessThanSign, IsInRcdataEndTagName, IsInReference}
 pub use Rattle.htoken.specs.Tokens.{events_of, has_refused, tokens_in, IsRefused, AreFront, eof_of, tokens_of, spans_text, Cut, errors_in, is_refused_tag, Tokens, span_errors, IsOut}
+pub use Rattle.htoken.specs.declared.front.Front.{Front}
+pub use Rattle.htoken.specs.declared.front.WholeReference.{WholeReference}
 pub use Rattle.htoken.specs.declared.markup_declaration_open.Opens.{Opens}
 pub use Rattle.htoken.specs.declared.script.Level.{Level}
 pub use Rattle.htoken.specs.declared.script.Script.{Script}

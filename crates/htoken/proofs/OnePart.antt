@@ -51,9 +51,6 @@ plain_kind : (text : List Placed) → begins (λ c. not (ends_unquoted c || is_q
 plain_kind [] h = absurd (false≢true h)
 plain_kind (p ∷ ps) h = (grind (arith, nat_tests), grind (arith, nat_tests))
 
-quoted_kind : (q : Placed) (more : List Placed) → is_quote q.ch ≡ true → (kind_of (q ∷ more) ≡ Quoted) × (is_space q.ch ≡ false)
-quoted_kind q more h = (quote_is q.ch h (λ c. kind_by (is_greater c) (is_quote c) ≡ Quoted) refl refl, quote_not_space q.ch h)
-
 record IsSame (rest rest' tail tail' : List Placed) (value value' : List ℕ) (errors errors' : List ParseError) : Type 0 where
   tails_are : tail ≡ tail'
   rests : rest ≡ rest'
@@ -69,7 +66,7 @@ module _ (table : Entities) (end : ℕ) where
   tail_kind : (rest tail : List Placed) (value : List ℕ) (errors : List ParseError) (h : IsTail table end rest tail value errors) → (kind_of (tail ++ rest) ≡ kind rest tail value errors h) × (begins is_space (tail ++ rest) ≡ false)
   tail_kind rest tail value errors (nothing t s v es) = rw t (nothing_kind rest s)
   tail_kind rest tail value errors (plain pieces t b runs are v es) = rw t (plain_kind (pieces_text pieces ++ rest) (begins_more _ (pieces_text pieces) rest b))
-  tail_kind rest tail value errors (enclosed q close pieces t is a are c v es) = rw t (quoted_kind q ((pieces_text pieces ++ close) ++ rest) is)
+  tail_kind rest tail value errors (enclosed q close pieces t is a are c v es) = rw t (quote_is q.ch is (λ c. kind_by (is_greater c) (is_quote c) ≡ Quoted) refl refl, quote_not_space q.ch is)
 
   not_mark : (q : Placed) (close rest : List Placed) → IsClose q.ch close rest → begins (λ c. not (c == q.ch)) (close ++ rest) ≡ false
   not_mark q [] rest (inl h) = absurd cc
@@ -110,9 +107,6 @@ module _ (table : Entities) (end : ℕ) where
           errors_are = es ∙ (λ i. value_errors (same.1 i) ++ close_errors end (closes.1 i)) ∙ sym es';
         }
     one_by _ _ same_kind = absurd cc
-
-    one_tail : IsTail table end rest tail value errors → IsTail table end rest' tail' value' errors' → IsSame rest rest' tail tail' value value' errors errors'
-    one_tail h h' = one_by h h' (sym (tail_kind rest tail value errors h).0 ∙ ap kind_of e ∙ (tail_kind rest' tail' value' errors' h').0)
 
 -- WHAT A SIGN IS
 
@@ -176,7 +170,7 @@ module _ (table : Entities) (end : ℕ) (rest rest' others others' : List Placed
       let whole : sign ++ (tail ++ rest) ≡ sign' ++ (tail' ++ rest') =
       sym (append_assoc sign tail rest) ∙ ap (λ (x : List Placed). x ++ rest) (sym o) ∙ e ∙ ap (λ (x : List Placed). x ++ rest') o' ∙ append_assoc sign' tail' rest' in
       let signs = one_sign sign sign' (tail ++ rest) (tail' ++ rest') s s' (tail_kind table end rest tail value errors t).1 (tail_kind table end rest' tail' value' errors' t').1 whole in
-      let same = one_tail table end rest rest' tail tail' value value' errors errors' signs.1 t t' in
+      let same = one_by table end rest rest' tail tail' value value' errors errors' signs.1 t t' (sym (tail_kind table end rest tail value errors t).0 ∙ ap kind_of signs.1 ∙ (tail_kind table end rest' tail' value' errors' t').0) in
       record { tails_are = o ∙ ap (λ (x : List Placed). x ++ tail) signs.0 ∙ ap (λ (x : List Placed). sign' ++ x) same.tails_are ∙ sym o'; rests = same.rests; values = same.values; errors_are = same.errors_are }
 
 one_name : (name name' after after' : List Placed) → IsAttributeName name after → IsAttributeName name' after' → name ++ after ≡ name' ++ after' → (name ≡ name') × (after ≡ after')

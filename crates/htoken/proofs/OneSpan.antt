@@ -15,9 +15,6 @@ end_tag_less None text h = absurd (false≢true h)
 end_tag_less (Some name) [] h = refl
 end_tag_less (Some name) (p ∷ ps) h = ap (λ (c : ℕ). eqb c 38) (eqb-true p.ch 60 (and_parts (eqb p.ch 60) (spells (47 ∷ []) ps) (first_of (spells (60 ∷ 47 ∷ []) (p ∷ ps)) _ _ h)).0)
 
-pub raw_end_less : (here : Standing) (text : List Placed) → is_raw_end here text ≡ true → begins is_amp text ≡ false
-raw_end_less here text h = end_tag_less here.name text (and_parts (may_end here.kind here.front) (is_end_tag_of here.name text) h).1
-
 module _ (table : Entities) (end : ℕ) (here : Standing) where
   piece_whole : (rest : List Placed) (span : Span) (piece : Piece) → span ≡ piece_span piece → span.text ++ rest ≡ piece.text ++ rest
   piece_whole rest span piece is = ap (λ (s : Span). s.text ++ rest) is
@@ -25,7 +22,7 @@ module _ (table : Entities) (end : ℕ) (here : Standing) where
   -- a reference is no end, and no character
   no_end : (rest rest' : List Placed) (span : Span) (piece : Piece) → IsReference table false rest' piece → is_raw_end here (span.text ++ rest) ≡ true → span.text ++ rest ≡ piece.text ++ rest' → ⊥
   no_end rest rest' span piece h k e =
-      false≢true (sym (raw_end_less here (span.text ++ rest) k) ∙ ap (begins is_amp) e ∙ begins_more is_amp piece.text rest' (at_amp table false rest' piece h))
+      false≢true (sym (end_tag_less here.name (span.text ++ rest) (and_parts (may_end here.kind here.front) (is_end_tag_of here.name (span.text ++ rest)) k).1) ∙ ap (begins is_amp) e ∙ begins_more is_amp piece.text rest' (at_amp table false rest' piece h))
 
   module _ (rest rest' : List Placed) (span span' : Span) (e : span.text ++ rest ≡ span'.text ++ rest') where
     one_raw : IsRawSpan table end here rest span → IsRawSpan table end here rest' span' → (span ≡ span') × (rest ≡ rest')

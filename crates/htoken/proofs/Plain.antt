@@ -1,6 +1,6 @@
 -- Characters that stand for themselves, whatever kind of text they are in.
 use Rattle.htoken.proofs.Names.{◌≡◌, ℕ, Bool, true, false, cond, not, ◌==◌, ◌||◌, eqb, List, [], ◌∷◌, ◌++◌, sym, ap, ◌∙◌, subst, arith, nat_tests, append_assoc, append-nil, refl, ParseError, Placed, RawKind, all, null_errors, no_null_error, and_parts, and_no, Entities, Span, Event, Gives, Char, Standing, IsDataSpan, character, character_span, IsSpan, IsRawSpan, raw_character, has_references, run_events, Stands}
-use Rattle.htoken.proofs.InRaw.{after_characters, raw_span, span_of}
+use Rattle.htoken.proofs.InRaw.{after_characters, span_of}
 use Rattle.htoken.proofs.Cutting.{stands_on}
 use Rattle.htoken.proofs.RawEnds.{other_goes_on}
 
@@ -24,12 +24,9 @@ plain_span p = record { text = p ∷ []; tokens = Char p.ch p.at ∷ []; errors 
 as_character : (p : Placed) → eqb p.ch 0 ≡ false → plain_span p ≡ character_span p
 as_character p some = ap (λ (es : List ParseError). record { text = p ∷ []; tokens = Char p.ch p.at ∷ []; errors = es }) (sym (no_null_error p some))
 
-as_raw : (p : Placed) → eqb p.ch 0 ≡ false → plain_span p ≡ raw_span p
-as_raw p some = as_character p some ∙ ap (λ (b : Bool). record { text = p ∷ []; tokens = Char (cond b 0xFFFD p.ch) p.at ∷ []; errors = null_errors (p ∷ []) }) (sym some)
-
 module _ (table : Entities) (end : ℕ) (here : Standing) (rest : List Placed) (p : Placed) (plain : is_itself p.ch ≡ true) where
   in_raw : IsRawSpan table end here rest (plain_span p)
-  in_raw = raw_character p (other_goes_on here p rest (no_less p.ch plain)) (and_no (has_references here.kind) (eqb p.ch 38) (no_sign p.ch plain)) (as_raw p (no_null p.ch plain))
+  in_raw = raw_character p (other_goes_on here p rest (no_less p.ch plain)) (and_no (has_references here.kind) (eqb p.ch 38) (no_sign p.ch plain)) (as_character p (no_null p.ch plain) ∙ ap (λ (b : Bool). record { text = p ∷ []; tokens = Char (cond b 0xFFFD p.ch) p.at ∷ []; errors = null_errors (p ∷ []) }) (sym (no_null p.ch plain)))
 
   in_data : IsDataSpan table end rest (plain_span p)
   in_data = let less : eqb p.ch 60 ≡ false = no_less p.ch plain in let sign : eqb p.ch 38 ≡ false = no_sign p.ch plain in character p (rw (less, sign) refl) (as_character p (no_null p.ch plain))

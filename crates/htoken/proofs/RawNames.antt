@@ -12,9 +12,6 @@ is_word (c ∷ cs) = list_all is_lower (c ∷ cs)
 abbrev fits : Tag → Bool
 fits t = not (is_raw (raw_kind t)) || is_word (tag_text t)
 
-all_fit : list_all fits tags ≡ true
-all_fit = refl
-
 word_among : (ts : List Tag) (text : List ℕ) → list_all fits ts ≡ true → is_raw (raw_kind (tag_among ts text)) ≡ true → is_word text ≡ true
 word_among [] text h raw = absurd cc
 word_among (t ∷ ts) text h raw = by (bytes_eq (tag_text t) text) refl raw (word_among ts text parts.1) where
@@ -30,7 +27,7 @@ abbrev HasWord : Standing → Type 0
 HasWord here = (name : List ℕ) → here.name ≡ Some name → is_raw here.kind ≡ true → is_word name ≡ true
 
 after_word : (here : Standing) (text : List Placed) (tokens : List Tok) → HasWord here → HasWord (after_tokens here text tokens)
-after_word here text (Start written attrs closing at ∷ others) h name e raw = let same : written ≡ name = cc in ap is_word (sym same) ∙ word_among tags written all_fit raw
+after_word here text (Start written attrs closing at ∷ others) h name e raw = let same : written ≡ name = cc in ap is_word (sym same) ∙ word_among tags written refl raw
 after_word here text (Char ch at ∷ others) h name e raw = h name e raw
 after_word here text _ h name e raw = absurd cc
 

@@ -81,12 +81,6 @@ next_is here text errors cs (c, others, e) = subst (λ (x : List ℕ). next here
 
 -- ITS EVENTS
 
-pub piece_tokens : (found : Reference) (at : ℕ) → tokens_in (piece_events found at) ≡ map (λ c. Char c at) (characters_of found.characters)
-piece_tokens found at = tokens_in-map (known_errors found at) (map (λ c. Char c at) (characters_of found.characters))
-
-pub piece_errors : (found : Reference) (at : ℕ) → errors_in (piece_events found at) ≡ known_errors found at
-piece_errors found at = errors_in-map (known_errors found at) (map (λ c. Char c at) (characters_of found.characters))
-
 -- the error of a run that is not known yet
 abbrev pub run_errors : Reference → ℕ → List Placed → List ParseError
 run_errors found at after = error_if (found.is_ambiguous && begins (λ c. eqb c 59) (past is_alphanumeric after)) UnknownNamedCharacterReference at
@@ -114,8 +108,8 @@ module _ (table : Entities) (start : RawKind) (end : ℕ) (front : List Placed) 
       let two = subst (λ (x : Standing). Stands table start end (front ++ (amp ∷ take count text)) (drop count text ++ rest) x (taken ++ map Gives span.tokens) (errors_of found at after))
       (next_is here (amp ∷ take count text) (errors_of found at after) (characters_of found.characters) (gives_some table (drop count text ++ rest) (piece after) is_table is)) one in
       stands_same table start end (front ++ (amp ∷ take count text)) (drop count text ++ rest) there (taken ++ map Gives span.tokens) (taken ++ piece_events found at) (errors_of found at after) (run_errors found at after)
-      (tokens_in-append taken (piece_events found at) ∙ ap (λ (x : List Tok). tokens_in taken ++ x) (piece_tokens found at ∙ sym (tokens_in-map [] span.tokens)) ∙ sym (tokens_in-append taken (map Gives span.tokens)))
-      (ap (λ (x : List ParseError). x ++ run_errors found at after) (errors_in-append taken (piece_events found at) ∙ ap (λ (x : List ParseError). errors_in taken ++ x) (piece_errors found at)) ∙ append_assoc (errors_in taken) (known_errors found at) (run_errors found at after)
+      (tokens_in-append taken (piece_events found at) ∙ ap (λ (x : List Tok). tokens_in taken ++ x) (tokens_in-map (known_errors found at) (map (λ c. Char c at) (characters_of found.characters)) ∙ sym (tokens_in-map [] span.tokens)) ∙ sym (tokens_in-append taken (map Gives span.tokens)))
+      (ap (λ (x : List ParseError). x ++ run_errors found at after) (errors_in-append taken (piece_events found at) ∙ ap (λ (x : List ParseError). errors_in taken ++ x) (errors_in-map (known_errors found at) (map (λ c. Char c at) (characters_of found.characters)))) ∙ append_assoc (errors_in taken) (known_errors found at) (run_errors found at after)
       ∙ ap (λ (x : List ParseError). x ++ errors_of found at after) (sym (append-nil (errors_in taken)) ∙ ap (λ (x : List ParseError). errors_in taken ++ x) (sym (errors_in-map [] span.tokens)) ∙ sym (errors_in-append taken (map Gives span.tokens))))
       two
 

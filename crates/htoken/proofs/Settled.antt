@@ -5,7 +5,7 @@ use Rattle.htoken.specs.Beginning.{nothing}
 use Rattle.htoken.specs.Held.{HoldsBeginning}
 use Rattle.htoken.specs.Settled.{AreSettled, AreTaken, SettledAreTaken}
 use Rattle.htoken.proofs.Held.{held_begins}
-use Rattle.htoken.proofs.OneCut.{OneIsFront, first, goes_on, one_is_front, refused_parts}
+use Rattle.htoken.proofs.OneCut.{first, goes_on, one_is_front, refused_parts}
 use Rattle.htoken.proofs.OneSpan.{one_span, some_span}
 
 taken_front : (taken : List Event) (spans whole more : List Span) → whole ≡ spans ++ more → tokens_in taken ≡ tokens_of whole → has_refused (tokens_of whole) ≡ false → AreTaken taken spans
@@ -33,11 +33,8 @@ module _ (table : Entities) (start : RawKind) (text : List Placed) (taken : List
     texts : spans_text spans ++ (s.rest ++ more) ≡ spans_text here_cut.spans ++ (h.held ++ more)
     texts = sym (append_assoc (spans_text spans) s.rest more) ∙ ap (λ (x : List Placed). x ++ more) (sym s.text_is ∙ h.text_is) ∙ append_assoc h.front h.held more ∙ ap (λ (x : List Placed). x ++ (h.held ++ more)) here_cut.front_is
 
-    compared : OneIsFront table end (at_start start) spans here_cut.spans (s.rest ++ more) (h.held ++ more)
-    compared = one_is_front table end (s.rest ++ more) (h.held ++ more) (at_start start) spans here_cut.spans (s.cut end more) here_cut.cut texts
-
     are_taken : ((span : Span) (others : List Span) → IsSpan table end h.here (spans_text others ++ (s.rest ++ more)) span → h.held ++ more ≡ span.text ++ (spans_text others ++ (s.rest ++ more)) → ⊥) → AreTaken taken spans
-    are_taken none = elim compared [
+    are_taken none = elim (one_is_front table end (s.rest ++ more) (h.held ++ more) (at_start start) spans here_cut.spans (s.cut end more) here_cut.cut texts) [
       | first k ↦ taken_front taken spans here_cut.spans k.more k.whole_is here_cut.tokens_are here_cut.in_profile
       | goes_on span others split is whole ↦ absurd (none span others (subst (λ (x : Standing). IsSpan table end x (spans_text others ++ (s.rest ++ more)) span) (h.cuts end more).1 is) whole)
     ]

@@ -7,7 +7,7 @@ use Rattle.htoken.proofs.OneValue.{is_amp, at_amp}
 use Rattle.htoken.proofs.OneTag.{Ends}
 use Rattle.htoken.proofs.SomePart.{begins_long, shorter, not_empty}
 use Rattle.htoken.proofs.SomeTag.{some_tag}
-use Rattle.htoken.proofs.SomeData.{some_data_span}
+use Rattle.htoken.proofs.SomeData.{data_by}
 use Rattle.htoken.proofs.Shapes.{IsShape, others, a_start, span_shape, next_name}
 
 -- RAW TEXT
@@ -47,7 +47,7 @@ module _ (table : Entities) (is_table : IsTable table) (end : ℕ) where
     raw_by p ps false e = raw_char p ps (has_references here.kind && eqb p.ch 38) refl e
 
     span_by : (p : Placed) (ps : List Placed) (k : RawKind) → (span : Span) × (rest : List Placed) × (p ∷ ps ≡ span.text ++ rest) × IsSpanOf k table end here rest span × (1 ≤ length span.text)
-    span_by p ps kind.None = let k = some_data_span table is_table end p ps in (k.span, k.rest, k.text_is, k.is_span, k.long)
+    span_by p ps kind.None = let k = data_by table is_table end p ps (eqb p.ch 60) refl in (k.span, k.rest, k.text_is, k.is_span, k.long)
     span_by p ps _ = let k = raw_by p ps (is_raw_end here (p ∷ ps)) refl in (k.span, k.rest, k.text_is, k.is_span, k.long)
 
 pub some_span : SomeSpan

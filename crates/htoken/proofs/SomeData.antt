@@ -174,9 +174,6 @@ module _ (table : Entities) (is_table : IsTable table) (end : ℕ) where
     less_here [] = record { span = _; rest = []; text_is = refl; is_span = less_than_last p is refl refl; long = omega arith }
     less_here (q ∷ qs) = markup_by q qs (is_letter q.ch) (eqb q.ch 47) (eqb q.ch 33) (eqb q.ch 63) refl refl refl refl
 
-  data_by : (p : Placed) (ps : List Placed) (less : Bool) → eqb p.ch 60 ≡ less → HasData table end (p ∷ ps)
+  pub data_by : (p : Placed) (ps : List Placed) (less : Bool) → eqb p.ch 60 ≡ less → HasData table end (p ∷ ps)
   data_by p ps true e = less_here p (eqb-true p.ch 60 e) ps
   data_by p ps false e = alone p ps (eqb p.ch 38) refl e
-
-  pub some_data_span : (p : Placed) (ps : List Placed) → HasData table end (p ∷ ps)
-  some_data_span p ps = data_by p ps (eqb p.ch 60) refl

@@ -1,13 +1,10 @@
 -- What is gathered of a run, to be handed over as one text.
-use Rattle.htoken.proofs.Names.{◌≡◌, ◌+◌, ◌-◌, ℕ, true, List, [], ◌∷◌, ◌++◌, take, drop, sym, refl, ap, ◌∙◌, subst, arith, Ok, Option, None, Some, IfSome, is_some, and_from, nat_tests, list_all-append, chars-nil, IsUtf8-nil, encode_utf8_all, list_all, chars, IsUtf8, ParseError, Placed, RawKind, all, characters, placed, characters_of, Entities, Reference, is_clean, clean_rest, Hands, TextWithReferences, all_at, AddsReferences, IsFront, IsGathered, IsWhole, known_errors, IsTextWithReferences, has_references, map-append, chars_from_encodes, encodes-chars, encode_utf8_all-append, characters_placed, nothing_front, all_weaker, is_not_null, StartsAt, false, ◌≤◌, ◌<◌, length, length-take-le, drop-drop, get_or-drop, slice_index, is_text_byte}
+use Rattle.htoken.proofs.Names.{◌≡◌, ◌+◌, ◌-◌, ℕ, true, List, [], ◌∷◌, ◌++◌, take, drop, sym, refl, ap, ◌∙◌, subst, arith, Ok, Option, None, Some, IfSome, is_some, and_from, nat_tests, list_all-append, chars-nil, IsUtf8-nil, encode_utf8_all, list_all, chars, IsUtf8, ParseError, Placed, RawKind, all, characters, placed, characters_of, Entities, Reference, is_clean, clean_rest, Hands, TextWithReferences, all_at, AddsReferences, EndsFront, Front, WholeReference, IsCut, cut_more, IsFront, IsGathered, IsWhole, known_errors, IsTextWithReferences, has_references, map-append, chars_from_encodes, encodes-chars, encode_utf8_all-append, characters_placed, nothing_front, all_weaker, is_not_null, StartsAt, false, ◌<◌, length, length-take-le, drop-drop, get_or-drop, slice_index, is_text_byte}
 use Rattle.htoken.proofs.Bare.{few_left, front_whole}
 use Rattle.htoken.proofs.InMarkup.{keeps, kept}
 use Rattle.htoken.proofs.Plain.{is_itself}
 use Rattle.htoken.proofs.InText.{front_both, front_plain, length_left}
 use Rattle.htoken.proofs.Referring.{gives_some, IsSomeText}
-
-clean_not_null : (c : ℕ) → is_clean c ≡ true → is_not_null c ≡ true
-clean_not_null c h = grind (arith, h, nat_tests)
 
 starts_both : (gs ps : List Placed) (at there : ℕ) → StartsAt gs at → StartsAt ps there → (gs ≡ [] → there ≡ at) → StartsAt (gs ++ ps) at
 starts_both [] [] at there first next same = tt
@@ -76,7 +73,7 @@ module _ (table : Entities) (kind : RawKind) (run : List ℕ) (at : ℕ) where
         raised_is = raised_is;
         text_is = text_is ∙ ap (λ (x : List ℕ). old.text ++ x) (sym bytes);
         utf8 = utf8;
-        not_null = ap (list_all is_not_null) are ∙ all_weaker is_clean is_not_null clean_not_null part (clean_rest n run front.cut clean).0;
+        not_null = ap (list_all is_not_null) are ∙ all_weaker is_clean is_not_null (λ c h. grind (arith, h, nat_tests)) part (clean_rest n run front.cut clean).0;
         starts = starts_placed at part;
         some = λ none. sym (length-take-le n run front.cut.within) ∙ ap length (sym bytes ∙ ap (λ (ps : List Placed). encode_utf8_all (characters ps)) none);
       }
@@ -88,21 +85,33 @@ module _ (table : Entities) (kind : RawKind) (run : List ℕ) (at : ℕ) where
       (ap (list_all is_not_null) (sym are) ∙ g.not_null, record { characters_are = are; starts = g.starts })
 
 -- what is known of the rest of a run, of its byte at an index and of the reference that comes there, is known of the run
-pub ends_later : (run rest : List ℕ) (n m : ℕ) → rest ≡ drop n run → n ≤ length run → (m < length rest → is_text_byte (slice_index rest m) ≡ false) → n + m < length run → is_text_byte (slice_index run (n + m)) ≡ false
-ends_later run rest n m is within ends l =
-    let few : m < length rest = omega (arith, l, ap length is, length_left n run within) in
-    sym (ap is_text_byte (get_or-drop n run m 0)) ∙ ap (λ (x : List ℕ). is_text_byte (slice_index x m)) (sym is) ∙ ends few
+pub front_later : (table : Entities) (kind : RawKind) (run rest : List ℕ) (n : ℕ) (more : Front) → rest ≡ drop n run → IsCut n run → IsCut more.count rest → (more.count < length rest → is_text_byte (slice_index rest more.count) ≡ false)
+    → IfSome more.next (λ it. IsWhole table kind (drop more.count rest) it.found it.size) → EndsFront table kind run (record { count = n + more.count; next = more.next })
+front_later table kind run rest n more is cut again ends whole = record {
+  cut = cut_more n more.count run cut (subst (IsCut more.count) is again);
+  ends = λ l.
+      let few : more.count < length rest = omega (arith, l, ap length is, length_left n run cut.within) in
+      sym (ap is_text_byte (get_or-drop n run more.count 0)) ∙ ap (λ (x : List ℕ). is_text_byte (slice_index x more.count)) (sym is) ∙ ends few;
+  whole = subst (λ (x : List ℕ). IfSome more.next (λ it. IsWhole table kind x it.found it.size)) (ap (drop more.count) is ∙ drop-drop more.count n run) whole;
+}
 
-pub whole_later : (table : Entities) (kind : RawKind) (run rest : List ℕ) (n m : ℕ) (next : Option (Reference × ℕ)) → rest ≡ drop n run → IfSome next (λ it. IsWhole table kind (drop m rest) it.0 it.1)
-    → IfSome next (λ it. IsWhole table kind (drop (n + m) run) it.0 it.1)
-whole_later table kind run rest n m next is = subst (λ (x : List ℕ). IfSome next (λ it. IsWhole table kind x it.0 it.1)) (ap (drop m) is ∙ drop-drop m n run)
+-- and the other way round
+pub front_here : (table : Entities) (kind : RawKind) (run rest : List ℕ) (front : Front) → rest ≡ drop front.count run → EndsFront table kind run front → EndsFront table kind rest (record { count = 0; next = front.next })
+front_here table kind run rest front is e = record {
+  cut = record { within = omega arith; front = IsUtf8-nil; back = subst IsUtf8 (sym is) e.cut.back };
+  ends = λ l.
+      let same : front.count + 0 ≡ front.count = omega arith in
+      let less : front.count < length run = omega (arith, l, ap length is, length_left front.count run e.cut.within) in
+      ap is_text_byte (ap (λ (x : List ℕ). slice_index x 0) is ∙ get_or-drop front.count run 0 0 ∙ ap (slice_index run) same) ∙ e.ends less;
+  whole = subst (λ (x : List ℕ). IfSome front.next (λ it. IsWhole table kind x it.found it.size)) (sym is) e.whole;
+}
 
-pub whole_of : (table : Entities) (kind : RawKind) (run : List ℕ) (whole : Option (Reference × ℕ)) (found : Reference) (count : ℕ) → whole ≡ Some (found, count) → IfSome whole (λ it. IsWhole table kind run it.0 it.1)
-    → IsWhole table kind run found count
-whole_of table kind run whole found count is may = subst (λ w. IfSome w (λ it. IsWhole table kind run it.0 it.1)) is may
+pub whole_of : (table : Entities) (kind : RawKind) (run : List ℕ) (whole : Option WholeReference) (first : WholeReference) → whole ≡ Some first → IfSome whole (λ it. IsWhole table kind run it.found it.size)
+    → IsWhole table kind run first.found first.size
+whole_of table kind run whole first is may = subst (λ w. IfSome w (λ it. IsWhole table kind run it.found it.size)) is may
 
 -- a whole reference is where references may be
-pub may_of : (table : Entities) (kind : RawKind) (run : List ℕ) (whole : Option (Reference × ℕ)) → is_some whole ≡ true → IfSome whole (λ it. IsWhole table kind run it.0 it.1) → has_references kind ≡ true
+pub may_of : (table : Entities) (kind : RawKind) (run : List ℕ) (whole : Option WholeReference) → is_some whole ≡ true → IfSome whole (λ it. IsWhole table kind run it.found it.size) → has_references kind ≡ true
 may_of table kind run None some h = absurd cc
 may_of table kind run (Some it) some h = h.may
 
@@ -111,14 +120,8 @@ module _ (table : Entities) (kind : RawKind) (run : List ℕ) (at : ℕ) (u : Is
   abbrev stands_for : List ℕ
   stands_for = characters_of found.characters
 
-  some_given : IsSomeText stands_for
-  some_given = gives_some table _ _ is.is_table ((is.reads 1 []).reads (record { ch = 38; at = 0 }) refl)
-
   own_size : own ≡ 1 + (size - found.left)
   own_size = omega (arith, own_is, few_left table kind run at u found size is)
-
-  pub own_front : IsFront table kind run at own (known_errors found at) (all_at at stands_for)
-  own_front = subst (λ (n : ℕ). IsFront table kind run at n (known_errors found at) (all_at at stands_for)) (sym own_size) (front_whole table kind run at u found size is)
 
   pub reference_adds : list_all is_not_null stands_for ≡ true → (old new : TextWithReferences) → Hands keeps old.raised (known_errors found at) (Ok tt) new.raised → new.text ≡ old.text ++ encode_utf8_all stands_for → IsUtf8 new.text
       → AddsReferences table kind run at own old new
@@ -127,11 +130,11 @@ module _ (table : Entities) (kind : RawKind) (run : List ℕ) (at : ℕ) (u : Is
       record {
         errors = known_errors found at;
         given = all_at at stands_for;
-        front = own_front;
+        front = subst (λ (n : ℕ). IsFront table kind run at n (known_errors found at) (all_at at stands_for)) (sym own_size) (front_whole table kind run at u found size is);
         raised_is = kept old.raised new.raised (known_errors found at) known;
         text_is = text_is ∙ ap (λ (x : List ℕ). old.text ++ encode_utf8_all x) (sym are);
         utf8 = utf8;
         not_null = ap (list_all is_not_null) are ∙ not_null;
         starts = starts_all_at at stands_for;
-        some = λ none. absurd (some_there at stands_for some_given none);
+        some = λ none. absurd (some_there at stands_for (gives_some table _ _ is.is_table ((is.reads 1 []).reads (record { ch = 38; at = 0 }) refl)) none);
       }

@@ -16,6 +16,12 @@ abbrev pub TakesNext : {S : Type 0} → (S → Item → Result (Unit {0}) Refusa
 TakesNext gives t p old answer new next = (table : Entities) (start : RawKind) (names : Texts) (text : List Placed) (taken : List Event)
     → Reads table start t names text (p ∷ []) taken → Takes gives table start text (p ∷ []) taken names old answer new next
 
+-- The same where the table of names may grow, as it may have before.
+abbrev pub TakesNextNamed : {S : Type 0} → (S → Item → Result (Unit {0}) Refusal → S → Type 0) → Tokenizer → Texts → Placed → Texts
+    → S → Result (Unit {0}) Refusal → S → Tokenizer → Type 0
+TakesNextNamed gives t now p names old answer new next = (table : Entities) (start : RawKind) (before : Texts) (text : List Placed) (taken : List Event)
+    → Grows before now → Reads table start t before text (p ∷ []) taken → Takes gives table start text (p ∷ []) taken names old answer new next
+
 -- What is so of every text that the tokenizer was fed and all events that were taken of it; the table of names may have grown since.
 abbrev pub FromWhatWasTaken : Tokenizer → Texts → (Entities → RawKind → List Placed → List Event → Type 0) → Type 0
 FromWhatWasTaken t names Then = (table : Entities) (start : RawKind) (before : Texts) (text : List Placed) (taken : List Event) → Grows before names
@@ -27,7 +33,7 @@ abbrev pub FeedsText : {S : Type 0} → (S → Item → Result (Unit {0}) Refusa
 FeedsText gives t before fed names old answer new next =
     FromWhatWasTaken t before (λ table start text taken. Takes gives table start text fed taken names old answer new next)
 
-abbrev pub FeedsPart : {S : Type 0} → (S → Item → Result (Unit {0}) Refusal → S → Type 0) → Tokenizer → Texts → ℕ → List ℕ → Texts → S → Result ℕ Refusal
+abbrev pub FeedsRun : {S : Type 0} → (S → Item → Result (Unit {0}) Refusal → S → Type 0) → Tokenizer → Texts → ℕ → List ℕ → Texts → S → Result ℕ Refusal
     → S → Tokenizer → Type 0
-FeedsPart gives t before at run names old answer new next =
+FeedsRun gives t before at run names old answer new next =
     FromWhatWasTaken t before (λ table start text taken. TakesPart gives table start text at run taken names old answer new next)

@@ -1,6 +1,6 @@
 -- The text at the front of a run, and what ends it: contracts of the tokenizer's own functions.
-use Rattle.std.specs.Prelude.{◌≡◌, ℕ, ◌+◌, ◌≤◌, ◌==◌, Bool, true, false, List, [], ◌∷◌, ◌++◌, map, length, take, drop, Result, Ok, Err}
-use Rattle.std.specs.Prelude.{encode_utf8_all}
+use Rattle.std.specs.Prelude.{◌≡◌, ℕ, ◌+◌, ◌≤◌, ◌<◌, ◌==◌, Bool, true, false, List, [], ◌∷◌, ◌++◌, map, length, take, drop, Result, Ok, Err}
+use Rattle.std.specs.Prelude.{IfSome, encode_utf8_all, slice_index}
 use Rattle.std.specs.Char.{is_ascii}
 use Rattle.std.specs.List.{list_all}
 use Rattle.std.specs.Str.{IsUtf8, chars}
@@ -13,12 +13,13 @@ use Rattle.names.specs.Names.{Texts}
 use Rattle.names.specs.Placed.{characters, placed, error_if, is_alphanumeric}
 use Rattle.names.specs.Sink.{Hands}
 use Rattle.hmarkup.specs.CommentWalk.{backwards}
-use Rattle.htext.specs.Run.{IsCut}
+use Rattle.htext.specs.Run.{IsCut, is_text_byte}
 use Rattle.charref.specs.declared.reference.Reference.{Reference}
 use Rattle.charref.specs.Pieces.{IsRead}
 use Rattle.charref.specs.Reference.{Entities, IsReference, IsTable, ampersand}
 use Rattle.htoken.specs.declared.front.Ampersand.{Ampersand}
 use Rattle.htoken.specs.declared.front.Ampersand.TheVariants.{Text, Whole, Open}
+use Rattle.htoken.specs.declared.front.Front.{Front}
 use Rattle.htoken.specs.declared.with_references.TextWithReferences.{TextWithReferences}
 use Rattle.htoken.specs.declared.tokenizer.Tokenizer.{Tokenizer}
 use Rattle.htoken.specs.Token.{Item, Event, Reports}
@@ -64,8 +65,14 @@ pub record IsWhole (table : Entities) (kind : RawKind) (run : List ℕ) (found :
 -- what an `&` at the front of this run is, where the run shows it
 abbrev pub ShowsAmpersand : Entities → RawKind → List ℕ → Ampersand → Type 0
 ShowsAmpersand table kind run (Text size) = IsBare table kind run size
-ShowsAmpersand table kind run (Whole found count) = IsWhole table kind run found count
+ShowsAmpersand table kind run (Whole whole) = IsWhole table kind run whole.found whole.size
 ShowsAmpersand table kind run Open = Unit {0}
+
+-- This much of a run was read, and after it is the run's end, or what is no text; and the whole reference that is said, if one is.
+pub record EndsFront (table : Entities) (kind : RawKind) (run : List ℕ) (front : Front) : Type 0 where
+  pub cut : IsCut front.count run
+  pub ends : front.count < length run → is_text_byte (slice_index run front.count) ≡ false
+  pub whole : IfSome front.next (λ it. IsWhole table kind (drop front.count run) it.found it.size)
 
 -- characters that all are at this place
 abbrev pub all_at : ℕ → List ℕ → List Placed

@@ -31,5 +31,5 @@ pub record HoldsFrom (table : Entities) (start : RawKind) (text : List Placed) (
 -- the place, by the state
 abbrev pub from_of : State → Tokenizer → ℕ
 from_of state.Text t = t.next
-from_of (state.AmbiguousAmpersand amp) t = t.next
+from_of state.AmbiguousAmpersand t = t.next
 from_of other t = t.at

@@ -1,14 +1,15 @@
 //! The end of the input, in each state (HTML Standard, `#tokenization`).
 
 ghost use Rattle.std.specs.Prelude.{◌≡◌, ◌∷◌, ◌++◌, List, [], ◌&&◌, map, nat_lt};
-ghost use Rattle.htoken.specs.Vocabulary.{is_script, level_number, Character, CutsOff, EndsHeld, Entities, Eof, EofBeforeTagName, Event, Finishes, Gives, gives_item, Grows, HandsEvents, HasTaken, IsInTag, Kind, less, Reports, script_errors, Texts};
+ghost use Rattle.htoken.specs.Vocabulary.{is_script, level_number, Character, CutsOff, EndsHeld, Entities, Eof, EofBeforeTagName, Event, Finishes, Gives, gives_item, Grows, HandsEvents, HasTaken, IsInTag, Kind, Reports, script_errors, Texts};
 
 use crate::hand::{give, give_faulty, hand_errors, tell_if};
+use crate::script::Level;
 use crate::sink::TokenSink;
 use crate::state::State;
 use crate::token::Token;
 use crate::tokenizer::{Answer, Tokenizer};
-use names::{ErrorCode, Names, ParseError, RawKind};
+use names::{ErrorCode, Names, ParseError, Placed, RawKind};
 
 impl<'t> Tokenizer<'t> {
     /// Ends what is held, and hands over the end.
@@ -34,11 +35,13 @@ impl<'t> Tokenizer<'t> {
             → EndsHeld (gives_item S.gives S.gives_token) table start end text taken names.new sink.old result self.new sink.new }
         ensures grows { Grows names.old names.new }
     {
+        let at = self.at;
+        let less = Placed { ch: '<', at };
         match self.state {
             State::Text => Ok(()),
-            State::TagOpen => give_faulty(ErrorCode::EofBeforeTagName, end, '<', self.at, sink),
+            State::TagOpen => give_faulty(ErrorCode::EofBeforeTagName, end, less, sink),
             State::EndTagOpen(solidus) => {
-                give_faulty(ErrorCode::EofBeforeTagName, end, '<', self.at, sink)?;
+                give_faulty(ErrorCode::EofBeforeTagName, end, less, sink)?;
                 give('/', solidus, sink)
             }
             // What comes after `<!` is read as a comment.
@@ -58,14 +61,11 @@ impl<'t> Tokenizer<'t> {
             // What does not belong to the reference is text.
             State::Reference => {
                 let found = self.reference.end();
-                self.give_reference(&found, self.held.len().saturating_sub(found.left), sink)
+                self.give_reference(&found, 0, sink)
             }
-            State::AmbiguousAmpersand(_) => Ok(()),
+            State::AmbiguousAmpersand => Ok(()),
             State::Tag => self.cut_off(names, end, sink),
-            State::RcdataLessThanSign => {
-                let less = self.at;
-                self.give_raw('<', less, sink)
-            }
+            State::RcdataLessThanSign => self.give_raw(less, sink),
             State::RcdataEndTagName(solidus) => self.give_held(solidus, sink),
         }
     }
@@ -99,6 +99,6 @@ impl<'t> Tokenizer<'t> {
     fn is_cut_off(&self) -> bool
         ensures { result ≡ (is_script self.now.kind && nat_lt 0 (level_number self.now.script.level)) }
     {
-        self.is_in_script() && self.script.is_inside()
+        self.is_in_script() && !matches!(self.script.level, Level::Plain)
     }
 }

@@ -134,17 +134,7 @@ impl GatheredText {
         if count <= PIECE && bytes.len() >= PIECE {
             return self.put(&u8x16::from_slice(bytes).to_array(), count);
         }
-        self.push_long(&bytes[..count])
-    }
-
-    /// Adds bytes of any number.
-    #[inline(never)]
-    fn push_long(&mut self, bytes: &[u8]) -> Result<(), AllocError>
-        requires { IsUtf8 bytes.now }
-        ensures text { OnOk result (self.new ≡ self.old ++ bytes.now) }
-        ensures utf8 { IsUtf8 self.new }
-    {
-        self.put(bytes, bytes.len())
+        self.put(&bytes[..count], count)
     }
 
     /// Writes bytes after the text, and adds the first of them to it. The others are room, so that bytes of a fixed number can be written at once.

@@ -1,7 +1,7 @@
 //! What follows `<!`, comments and doctypes (HTML Standard, `#bogus-comment-state` to `#bogus-doctype-state`).
 
-ghost use Rattle.std.specs.Prelude.{◌≡◌, ◌∷◌, ℕ, List, [], true, MatchResult};
-ghost use Rattle.htoken.specs.Vocabulary.{all, BeginsBogus, Character, Comment, EndsDoctype, Entities, error, Event, gives_item, GivesSpan, HandedMeans, is_plain_in_bogus, Kind, place, Reader, Reads, Takes, TakesNext, Texts};
+ghost use Rattle.std.specs.Prelude.{◌≡◌, ℕ, true, MatchResult};
+ghost use Rattle.htoken.specs.Vocabulary.{all, BeginsBogus, Comment, EndsDoctype, error, gives_item, GivesSpan, HandedMeans, is_plain_in_bogus, place, TakesNext};
 
 use crate::markup_declaration_open::{Opens, is_plain, opened_by, plain_front};
 use crate::sink::TokenSink;
@@ -9,25 +9,25 @@ use crate::state::State;
 use crate::token::Token;
 use crate::tokenizer::{Answer, Tokenizer};
 use hmarkup::{CommentWalk, DoctypeWalk};
-use names::{ErrorCode, ParseError, Refusal};
+use names::{ErrorCode, ParseError, Placed, Refusal};
 use std::mem;
 
 impl<'t> Tokenizer<'t> {
     /// The markup declaration open state (`#markup-declaration-open-state`), after `<!`.
     pub(crate) fn markup_declaration_open<S: TokenSink>(
         &mut self,
-        ch: char,
-        at: u64,
+        p: Placed,
         sink: &mut S,
     ) -> Answer
         requires { (bang : ℕ) × (self.old.state ≡ State.MarkupDeclarationOpen bang) }
-        ensures { TakesNext (gives_item S.gives S.gives_token) self.old (record { ch = ch; at = at }) sink.old result sink.new self.new }
+        ensures { TakesNext (gives_item S.gives S.gives_token) self.old p sink.old result sink.new self.new }
     {
-        if !is_plain(ch) {
-            self.begin_held(ErrorCode::IncorrectlyOpenedComment, at)?;
-            return self.in_comment(ch, at, sink);
+        if !is_plain(p.ch) {
+            self.begin_held(ErrorCode::IncorrectlyOpenedComment, p.at)?;
+            return self.in_comment(p, sink);
         }
-        self.hold(ch, at)?;
+        let at = p.at;
+        self.held.push(p)?;
         match opened_by(&self.held) {
             Opens::Nothing => Ok(()),
             Opens::Comment => {
@@ -45,54 +45,25 @@ impl<'t> Tokenizer<'t> {
         }
     }
 
-    /// Begins what is read as a comment with the characters that are held after `<!`. The error is at the first of them, or here.
+    /// Begins what is read as a comment up to the first `>` (the bogus comment state, `#bogus-comment-state`) with the characters that are held.
+    /// The error is at the first of them, or here.
     pub(crate) fn begin_held(&mut self, code: ErrorCode, at: u64) -> Answer
         ensures { MatchResult result (λ _. (self.new.state ≡ State.Comment) × (all is_plain_in_bogus self.old.held.items ≡ true
             → BeginsBogus self.old self.old.held.items (error code (place at self.old.held.items)) self.new)) (λ refusal. refusal ≡ Refusal.Memory) }
     {
-        let at = self.first_held(at);
+        let at = self.held.first().map_or(at, |first| first.at);
         self.raised.errors.push(ParseError { code, at })?;
         self.comment = CommentWalk::bogus_after(self.alloc, plain_front(&self.held))?;
         self.state = State::Comment;
         Ok(())
     }
 
-    /// Begins what is read as a comment up to the first `>`, with an error (the bogus comment state, `#bogus-comment-state`), and takes this
-    /// character, which is the first of it.
-    pub(crate) fn begin_bogus_at<S: TokenSink>(
-        &mut self,
-        code: ErrorCode,
-        ch: char,
-        at: u64,
-        sink: &mut S,
-    ) -> Answer
-        ensures { (table : Entities) (start : Kind) (names : Texts) (text : List Character) (taken : List Event)
-            → Reads table start self.old names text (record { ch = ch; at = at } ∷ []) taken
-            → ((new : Reader) → BeginsBogus self.old [] (error code at) new → Reads table start new names text (record { ch = ch; at = at } ∷ []) taken)
-            → Takes (gives_item S.gives S.gives_token) table start text (record { ch = ch; at = at } ∷ []) taken names sink.old result sink.new self.new }
-    {
-        self.raised.errors.push(ParseError { code, at })?;
-        self.comment = CommentWalk::bogus(self.alloc);
-        self.state = State::Comment;
-        self.in_comment(ch, at, sink)
-    }
-
-    /// The place of the first character that is held after `<!`, or this one.
-    fn first_held(&self, at: u64) -> u64
-        ensures { result ≡ place at self.now.held.items }
-    {
-        match self.held.first() {
-            Some(first) => first.at,
-            None => at,
-        }
-    }
-
     /// Takes a character of a comment.
-    pub(crate) fn in_comment<S: TokenSink>(&mut self, ch: char, at: u64, sink: &mut S) -> Answer
+    pub(crate) fn in_comment<S: TokenSink>(&mut self, p: Placed, sink: &mut S) -> Answer
         requires { self.old.state ≡ State.Comment }
-        ensures { TakesNext (gives_item S.gives S.gives_token) self.old (record { ch = ch; at = at }) sink.old result sink.new self.new }
+        ensures { TakesNext (gives_item S.gives S.gives_token) self.old p sink.old result sink.new self.new }
     {
-        if self.comment.take_char(ch, at, &mut self.raised)? {
+        if self.comment.take_char(p.ch, p.at, &mut self.raised)? {
             self.end_comment(sink)
         } else {
             Ok(())
@@ -111,11 +82,11 @@ impl<'t> Tokenizer<'t> {
     }
 
     /// Takes a character of a doctype.
-    pub(crate) fn in_doctype<S: TokenSink>(&mut self, ch: char, at: u64, sink: &mut S) -> Answer
+    pub(crate) fn in_doctype<S: TokenSink>(&mut self, p: Placed, sink: &mut S) -> Answer
         requires { self.old.state ≡ State.Doctype }
-        ensures { TakesNext (gives_item S.gives S.gives_token) self.old (record { ch = ch; at = at }) sink.old result sink.new self.new }
+        ensures { TakesNext (gives_item S.gives S.gives_token) self.old p sink.old result sink.new self.new }
     {
-        if self.doctype.take_char(ch, at, &mut self.raised)? {
+        if self.doctype.take_char(p.ch, p.at, &mut self.raised)? {
             self.end_doctype(sink)
         } else {
             Ok(())

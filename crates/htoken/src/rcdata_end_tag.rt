@@ -1,7 +1,7 @@
 //! The end tag of raw text (HTML Standard, `#rcdata-less-than-sign-state` to `#script-data-end-tag-name-state`).
 
-ghost use Rattle.std.specs.Prelude.{◌≡◌, ◌∷◌, List, [], slice_get, true, length, string_bytes, MatchResult};
-ghost use Rattle.htoken.specs.Vocabulary.{backwards, Character, Entities, Event, gives_item, Grows, HandsEvents, HasFront, held_in_raw, Holds, is_script, Kind, Reads, run_events, Takes, TakesNext, Texts};
+ghost use Rattle.std.specs.Prelude.{◌≡◌, List, slice_get, true, length, string_bytes};
+ghost use Rattle.htoken.specs.Vocabulary.{backwards, Character, gives_item, Grows, HandsEvents, HasFront, held_in_raw, is_script, run_events, TakesNext, TakesNextNamed, Texts};
 
 use crate::hand::{give, give_all};
 use crate::markup_declaration_open::is_read_as;
@@ -9,29 +9,24 @@ use crate::script::ends_name;
 use crate::sink::TokenSink;
 use crate::state::State;
 use crate::tokenizer::{Answer, Tokenizer};
-use names::{Names, Placed, Refusal};
+use names::{Names, Placed};
 
 impl<'t> Tokenizer<'t> {
     /// The RCDATA less-than sign state and its like, after `<` in raw text (`#rcdata-less-than-sign-state`,
     /// `#rawtext-less-than-sign-state`, `#script-data-less-than-sign-state`, `#script-data-escaped-less-than-sign-state`).
-    pub(crate) fn rcdata_less_than_sign<S: TokenSink>(
-        &mut self,
-        ch: char,
-        at: u64,
-        sink: &mut S,
-    ) -> Answer
+    pub(crate) fn rcdata_less_than_sign<S: TokenSink>(&mut self, p: Placed, sink: &mut S) -> Answer
         requires { self.old.state ≡ State.RcdataLessThanSign }
-        ensures { TakesNext (gives_item S.gives S.gives_token) self.old (record { ch = ch; at = at }) sink.old result sink.new self.new }
+        ensures { TakesNext (gives_item S.gives S.gives_token) self.old p sink.old result sink.new self.new }
     {
-        if ch == '/' {
-            self.state = State::RcdataEndTagName(at);
+        if p.ch == '/' {
+            self.state = State::RcdataEndTagName(p.at);
             self.held.clear();
             return Ok(());
         }
-        let less = self.at;
+        let at = self.at;
         self.state = State::Text;
-        self.give_raw('<', less, sink)?;
-        self.in_text(ch, at, sink)
+        self.give_raw(Placed { ch: '<', at }, sink)?;
+        self.in_text(p, sink)
     }
 
     /// The RCDATA end tag open and RCDATA end tag name states and their like: after `</` and letters of the last start tag's name, which
@@ -42,37 +37,26 @@ impl<'t> Tokenizer<'t> {
         &mut self,
         solidus: u64,
         names: &mut Names,
-        ch: char,
-        at: u64,
+        p: Placed,
         sink: &mut S,
     ) -> Answer
         requires { self.old.state ≡ State.RcdataEndTagName solidus }
-        ensures takes { (table : Entities) (start : Kind) (before : Texts) (text : List Character) (taken : List Event) → Grows before names.old
-            → Reads table start self.old before text (record { ch = ch; at = at } ∷ []) taken
-            → Takes (gives_item S.gives S.gives_token) table start text (record { ch = ch; at = at } ∷ []) taken names.new sink.old result sink.new self.new }
+        ensures takes { TakesNextNamed (gives_item S.gives S.gives_token) self.old names.old p names.new sink.old result sink.new self.new }
         ensures grows { Grows names.old names.new }
     {
         match self.expected() {
-            Some(byte) if is_read_as(ch, byte, true) => self.hold(ch, at),
-            None if ends_name(ch) => {
+            Some(byte) if is_read_as(p.ch, byte, true) => Ok(self.held.push(p)?),
+            None if ends_name(p.ch) => {
                 self.tag.begin_end();
                 self.state = State::Tag;
-                self.in_tag(names, ch, at, sink)
+                self.in_tag(names, p, sink)
             }
             // It is no end tag.
             _ => {
                 self.give_held(solidus, sink)?;
-                self.in_text(ch, at, sink)
+                self.in_text(p, sink)
             }
         }
-    }
-
-    /// Holds a character.
-    pub(crate) fn hold(&mut self, ch: char, at: u64) -> Answer
-        ensures { MatchResult result (λ _. Holds self.old (record { ch = ch; at = at }) self.new) (λ refusal. refusal ≡ Refusal.Memory) }
-    {
-        self.held.push(Placed { ch, at })?;
-        Ok(())
     }
 
     /// What comes next in the name of the end tag, if anything is left of it.

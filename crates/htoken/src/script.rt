@@ -96,13 +96,6 @@ impl Script {
         !matches!(self.level, Level::DoubleEscaped)
     }
 
-    /// Whether it is in comment-like text.
-    pub fn is_inside(self) -> bool
-        ensures { result ≡ nat_lt 0 (level_number self.level) }
-    {
-        !matches!(self.level, Level::Plain)
-    }
-
     /// The script after one more character. Most of a script is outside comment-like text, and begins none.
     #[inline(always)]
     pub fn after(self, ch: char) -> Script

@@ -1,16 +1,16 @@
 //! Tags (HTML Standard, `#tag-name-state` and `#before-attribute-name-state` to `#self-closing-start-tag-state`).
 
-ghost use Rattle.std.specs.Prelude.{◌≡◌, ◌∷◌, ℕ, List, [], Some, OnOk};
-ghost use Rattle.htoken.specs.Vocabulary.{BeginsTag, Character, End, EndsStartTag, EndsTag, Entities, Event, gives_item, Grows, KeepsFaults, KeepsIf, Kind, Reads, Takes, Texts};
+ghost use Rattle.std.specs.Prelude.{◌≡◌, ℕ, List, Some, MatchResult, OnOk};
+ghost use Rattle.htoken.specs.Vocabulary.{BeginsTag, End, EndsStartTag, EndsTag, gives_item, Grows, KeepsFaults, TakesNextNamed};
 
-use crate::hand::give_tag;
+use crate::hand::{give_tag, tell_if};
 use crate::script::Script;
 use crate::sink::TokenSink;
 use crate::state::State;
 use crate::token::Token;
 use crate::tokenizer::{Answer, Tokenizer};
 use htag::TagKind;
-use names::{ErrorCode, NameId, Names, ParseError, RawKind, Refusal};
+use names::{ErrorCode, NameId, Names, Placed, RawKind, Refusal};
 use std::alloc::AllocError;
 
 impl<'t> Tokenizer<'t> {
@@ -28,19 +28,16 @@ impl<'t> Tokenizer<'t> {
     pub(crate) fn in_tag<S: TokenSink>(
         &mut self,
         names: &mut Names,
-        ch: char,
-        at: u64,
+        p: Placed,
         sink: &mut S,
     ) -> Answer
         requires { self.old.state ≡ State.Tag }
-        ensures takes { (table : Entities) (start : Kind) (before : Texts) (text : List Character) (taken : List Event) → Grows before names.old
-            → Reads table start self.old before text (record { ch = ch; at = at } ∷ []) taken
-            → Takes (gives_item S.gives S.gives_token) table start text (record { ch = ch; at = at } ∷ []) taken names.new sink.old result sink.new self.new }
+        ensures takes { TakesNextNamed (gives_item S.gives S.gives_token) self.old names.old p names.new sink.old result sink.new self.new }
         ensures grows { Grows names.old names.new }
     {
         if self
             .tag
-            .take_char(self.table, names, ch, at, &mut self.raised.errors)?
+            .take_char(self.table, names, p.ch, p.at, &mut self.raised.errors)?
         {
             self.end_tag(names, sink)
         } else {
@@ -69,26 +66,13 @@ impl<'t> Tokenizer<'t> {
 
     /// Keeps the errors of an end tag that has attributes or a solidus. It drops them.
     #[inline(always)]
-    fn keep_faults(&mut self) -> Result<(), AllocError>
-        ensures { OnOk result (KeepsFaults self.old self.new) }
+    fn keep_faults(&mut self) -> Answer
+        ensures { MatchResult result (λ _. KeepsFaults self.old self.new) (λ refusal. refusal ≡ Refusal.Memory) }
     {
-        let any = self.tag.has_attributes();
-        let closing = self.tag.is_closing();
-        self.keep_if(any, ErrorCode::EndTagWithAttributes)?;
-        self.keep_if(closing, ErrorCode::EndTagWithTrailingSolidus)?;
-        Ok(())
-    }
-
-    /// Keeps an error of the tag, if there is one.
-    #[inline(always)]
-    fn keep_if(&mut self, says: bool, code: ErrorCode) -> Result<(), AllocError>
-        ensures { OnOk result (KeepsIf says code self.old self.new) }
-    {
-        if says {
-            let at = self.at;
-            self.raised.errors.push(ParseError { code, at })?;
-        }
-        Ok(())
+        let code = ErrorCode::EndTagWithAttributes;
+        tell_if(self.tag.has_attributes(), code, self.at, &mut self.raised)?;
+        let code = ErrorCode::EndTagWithTrailingSolidus;
+        tell_if(self.tag.is_closing(), code, self.at, &mut self.raised)
     }
 
     /// Hands over a start tag of this name, unless it is left out of the profile.

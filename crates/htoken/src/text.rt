@@ -7,7 +7,7 @@ use crate::hand::{give, give_faulty};
 use crate::sink::TokenSink;
 use crate::state::State;
 use crate::tokenizer::{Answer, Tokenizer};
-use names::{ErrorCode, RawKind};
+use names::{ErrorCode, Placed, RawKind};
 
 /// Whether references may be in text of this kind.
 pub(crate) fn allows_references(kind: RawKind) -> bool
@@ -19,70 +19,73 @@ pub(crate) fn allows_references(kind: RawKind) -> bool
 impl<'t> Tokenizer<'t> {
     /// Takes a character where nothing is held.
     #[inline(always)]
-    pub(crate) fn in_text<S: TokenSink>(&mut self, ch: char, at: u64, sink: &mut S) -> Answer
+    pub(crate) fn in_text<S: TokenSink>(&mut self, p: Placed, sink: &mut S) -> Answer
         requires { self.old.state ≡ State.Text }
-        ensures { TakesNext (gives_item S.gives S.gives_token) self.old (record { ch = ch; at = at }) sink.old result sink.new self.new }
+        ensures { TakesNext (gives_item S.gives S.gives_token) self.old p sink.old result sink.new self.new }
     {
         match self.kind {
-            RawKind::None => self.in_data(ch, at, sink),
+            RawKind::None => self.in_data(p, sink),
             RawKind::Rcdata | RawKind::Rawtext | RawKind::Script | RawKind::Plaintext => {
-                self.in_raw(ch, at, sink)
+                self.in_raw(p, sink)
             }
         }
     }
 
     /// Takes a character in the data state (`#data-state`).
     #[inline(always)]
-    pub(crate) fn in_data<S: TokenSink>(&mut self, ch: char, at: u64, sink: &mut S) -> Answer
+    pub(crate) fn in_data<S: TokenSink>(&mut self, p: Placed, sink: &mut S) -> Answer
         requires text { self.old.state ≡ State.Text }
         requires is_data { self.old.kind ≡ RawKind.None }
-        ensures { TakesNext (gives_item S.gives S.gives_token) self.old (record { ch = ch; at = at }) sink.old result sink.new self.new }
+        ensures { TakesNext (gives_item S.gives S.gives_token) self.old p sink.old result sink.new self.new }
     {
-        match ch {
+        match p.ch {
             '<' => {
                 self.state = State::TagOpen;
-                self.at = at;
+                self.at = p.at;
                 Ok(())
             }
-            '&' => Ok(self.begin_reference(at)),
-            '\0' => give_faulty(ErrorCode::UnexpectedNullCharacter, at, ch, at, sink),
-            _ => give(ch, at, sink),
+            '&' => Ok(self.begin_reference(p.at)),
+            '\0' => give_faulty(ErrorCode::UnexpectedNullCharacter, p.at, p, sink),
+            _ => give(p.ch, p.at, sink),
         }
     }
 
     /// Takes a character in the RCDATA, RAWTEXT, script data or PLAINTEXT state (`#rcdata-state`, `#rawtext-state`, `#script-data-state`,
     /// `#plaintext-state`).
     #[inline(never)]
-    fn in_raw<S: TokenSink>(&mut self, ch: char, at: u64, sink: &mut S) -> Answer
+    fn in_raw<S: TokenSink>(&mut self, p: Placed, sink: &mut S) -> Answer
         requires text { self.old.state ≡ State.Text }
         requires raw { is_raw self.old.kind ≡ true }
-        ensures { TakesNext (gives_item S.gives S.gives_token) self.old (record { ch = ch; at = at }) sink.old result sink.new self.new }
+        ensures { TakesNext (gives_item S.gives S.gives_token) self.old p sink.old result sink.new self.new }
     {
-        match ch {
+        match p.ch {
             '<' if self.may_end() => {
                 self.state = State::RcdataLessThanSign;
-                self.at = at;
+                self.at = p.at;
                 Ok(())
             }
-            '&' if allows_references(self.kind) => {
-                self.begin_reference(at);
-                Ok(())
-            }
+            '&' if allows_references(self.kind) => Ok(self.begin_reference(p.at)),
             '\0' => {
-                self.follow(ch);
-                give_faulty(ErrorCode::UnexpectedNullCharacter, at, '\u{FFFD}', at, sink)
+                self.follow(p.ch);
+                let (ch, at) = (char::REPLACEMENT_CHARACTER, p.at);
+                give_faulty(
+                    ErrorCode::UnexpectedNullCharacter,
+                    at,
+                    Placed { ch, at },
+                    sink,
+                )
             }
-            _ => self.give_raw(ch, at, sink),
+            _ => self.give_raw(p, sink),
         }
     }
 
     /// Hands over a character of raw text, and follows the level of script data.
-    pub(crate) fn give_raw<S: TokenSink>(&mut self, ch: char, at: u64, sink: &mut S) -> Answer
-        ensures follows { IsFollowed self.old ch self.new }
-        ensures handed { (names : Texts) → HandsEvents (gives_item S.gives S.gives_token) names sink.old (Gives (Char ch at) ∷ []) result sink.new }
+    pub(crate) fn give_raw<S: TokenSink>(&mut self, p: Placed, sink: &mut S) -> Answer
+        ensures follows { IsFollowed self.old p.ch self.new }
+        ensures handed { (names : Texts) → HandsEvents (gives_item S.gives S.gives_token) names sink.old (Gives (Char p.ch p.at) ∷ []) result sink.new }
     {
-        self.follow(ch);
-        give(ch, at, sink)
+        self.follow(p.ch);
+        give(p.ch, p.at, sink)
     }
 
     /// Follows the level of script data.

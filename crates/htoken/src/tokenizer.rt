@@ -129,7 +129,7 @@ impl<'t> Tokenizer<'t> {
         if let Some(refusal) = self.refused {
             return Err(refusal);
         }
-        let answer = self.take(names, ch, at, sink);
+        let answer = self.take(names, Placed { ch, at }, sink);
         if let Err(refusal) = answer {
             self.refused = Some(refusal);
         }
@@ -145,7 +145,7 @@ impl<'t> Tokenizer<'t> {
     {
         match self.state {
             State::Text => self.next,
-            State::AmbiguousAmpersand(_) => self.next,
+            State::AmbiguousAmpersand => self.next,
             _ => self.at,
         }
     }
@@ -181,29 +181,25 @@ impl<'t> Tokenizer<'t> {
     pub(crate) fn take<S: TokenSink>(
         &mut self,
         names: &mut Names,
-        ch: char,
-        at: u64,
+        p: Placed,
         sink: &mut S,
     ) -> Answer
-        ensures takes { FeedsText (gives_item S.gives S.gives_token) self.old names.old (record { ch = ch; at = at } ∷ [])
-            names.new sink.old result sink.new self.new }
+        ensures takes { FeedsText (gives_item S.gives S.gives_token) self.old names.old (p ∷ []) names.new sink.old result sink.new self.new }
         ensures grows { Grows names.old names.new }
     {
-        self.next = after(at);
+        self.next = after(p.at);
         match self.state {
-            State::Text => self.in_text(ch, at, sink),
-            State::TagOpen => self.tag_open(ch, at, sink),
-            State::EndTagOpen(_) => self.end_tag_open(ch, at, sink),
-            State::MarkupDeclarationOpen(_) => self.markup_declaration_open(ch, at, sink),
-            State::Comment => self.in_comment(ch, at, sink),
-            State::Doctype => self.in_doctype(ch, at, sink),
-            State::Reference => self.in_reference(ch, at, sink),
-            State::AmbiguousAmpersand(amp) => self.in_ambiguous_ampersand(amp, ch, at, sink),
-            State::Tag => self.in_tag(names, ch, at, sink),
-            State::RcdataLessThanSign => self.rcdata_less_than_sign(ch, at, sink),
-            State::RcdataEndTagName(solidus) => self.rcdata_end_tag_name(
-                solidus, names, ch, at, sink,
-            ),
+            State::Text => self.in_text(p, sink),
+            State::TagOpen => self.tag_open(p, sink),
+            State::EndTagOpen(_) => self.end_tag_open(p, sink),
+            State::MarkupDeclarationOpen(_) => self.markup_declaration_open(p, sink),
+            State::Comment => self.in_comment(p, sink),
+            State::Doctype => self.in_doctype(p, sink),
+            State::Reference => self.in_reference(p, sink),
+            State::AmbiguousAmpersand => self.in_ambiguous_ampersand(p, sink),
+            State::Tag => self.in_tag(names, p, sink),
+            State::RcdataLessThanSign => self.rcdata_less_than_sign(p, sink),
+            State::RcdataEndTagName(solidus) => self.rcdata_end_tag_name(solidus, names, p, sink),
         }
     }
 

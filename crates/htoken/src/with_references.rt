@@ -2,15 +2,16 @@
 //! `#numeric-character-reference-end-state`).
 
 ghost use Rattle.std.specs.Prelude.{◌≡◌, ◌≤◌, ◌<◌, ◌+◌, ℕ, List, true, false, IfOk, IfSome, MatchResult, drop, length, slice_index, IsUtf8};
-ghost use Rattle.htoken.specs.Vocabulary.{AddsReferences, Character, characters_of, chars, Entities, gives_item, GivesTextWithReferences, is_clean, is_not_null, is_text_byte, IsBare, IsCut, IsGathered, IsTextWithReferences, IsWhole, Kind, list_all, MAX_INPUT, Texts};
+ghost use Rattle.htoken.specs.Vocabulary.{AddsReferences, Character, characters_of, chars, EndsFront, Entities, gives_item, GivesTextWithReferences, is_clean, is_not_null, is_text_byte, IsBare, IsCut, IsGathered, IsTextWithReferences, IsWhole, Kind, list_all, MAX_INPUT, Texts};
 
-use crate::front::{Ampersand, at_ampersand, tell_bare};
+use crate::clean_run::Run;
+use crate::front::{Ampersand, Front, FrontRead, WholeReference, at_ampersand, tell_bare};
 use crate::gathered_text::GatheredText;
 use crate::hand::{hand_errors, tell_known};
 use crate::sink::TokenSink;
 use crate::state::Raised;
 use crate::tokenizer::{Answer, Taken};
-use charref::{Characters, Reference, Table};
+use charref::{Characters, Table};
 use htext::text_run;
 use names::{RawKind, Refusal};
 use std::alloc::{AllocError, Global};
@@ -45,88 +46,80 @@ impl TextWithReferences {
     }
 
     /// Gathers what is at the front of a run, from the whole reference on that begins it: text, and whole references that do not stand for NUL.
-    /// Returns the length, and the whole reference that comes next, if the run shows one.
     #[inline(never)]
     pub(crate) fn gather(
         &mut self,
         table: &Table,
         kind: RawKind,
-        whole: Option<(Reference, usize)>,
-        run: &str,
-        at: u64,
-    ) -> Result<(usize, Option<(Reference, usize)>), Refusal>
-        requires starts { 0 < length run.now → is_text_byte (slice_index run.now 0) ≡ false }
-        requires whole { IfSome whole (λ it. IsWhole table.now kind run.now it.0 it.1) }
-        requires clean { list_all is_clean (chars run.now) ≡ true }
-        requires within { at + length run.now ≤ MAX_INPUT }
-        ensures gathered { MatchResult result (λ it. IsGathered table.now kind run.now at it.0 self.new) (λ e. e ≡ Refusal.Memory) }
-        ensures ends { IfOk result (λ it. it.0 < length run.now → is_text_byte (slice_index run.now it.0) ≡ false) }
-        ensures whole { IfOk result (λ it. IfSome it.1 (λ next. IsWhole table.now kind (drop it.0 run.now) next.0 next.1)) }
+        whole: Option<WholeReference>,
+        run: &Run,
+    ) -> FrontRead
+        requires ends { EndsFront table.now kind run.now.text.now (record { count = 0; next = whole }) }
+        ensures gathered { MatchResult result (λ front. IsGathered table.now kind run.now.text.now run.now.at front.count self.new) (λ e. e ≡ Refusal.Memory) }
+        ensures ends { IfOk result (λ front. front.count < length run.now.text.now → is_text_byte (slice_index run.now.text.now front.count) ≡ false) }
+        ensures whole { IfOk result (λ front. IfSome front.next (λ it. IsWhole table.now kind (drop front.count run.now.text.now) it.found it.size)) }
     {
         self.text.clear();
         self.raised.errors.clear();
-        if let Some((found, size)) = whole
-            && are_some(found.characters)
+        if let Some(first) = whole
+            && are_some(first.found.characters)
         {
-            let count = self.add_reference(&found, size, at)?;
-            return self.gather_from(count, table, kind, run, at);
+            let count = self.add_reference(&first, run.at)?;
+            return self.gather_from(count, table, kind, run);
         }
-        Ok((0, whole))
+        Ok(Front {
+            count: 0,
+            next: whole,
+        })
     }
 
-    /// Gathers on after this many bytes of a run, which are gathered. Returns the same.
+    /// Gathers on after this many bytes of a run, which are gathered.
     #[inline(always)]
-    fn gather_from(
-        &mut self,
-        count: usize,
-        table: &Table,
-        kind: RawKind,
-        run: &str,
-        at: u64,
-    ) -> Result<(usize, Option<(Reference, usize)>), Refusal>
-        requires gathered { IsGathered table.now kind run.now at count self.old }
-        requires clean { list_all is_clean (chars run.now) ≡ true }
-        requires within { at + length run.now ≤ MAX_INPUT }
-        ensures gathered { MatchResult result (λ it. IsGathered table.now kind run.now at it.0 self.new) (λ e. e ≡ Refusal.Memory) }
-        ensures ends { IfOk result (λ it. it.0 < length run.now → is_text_byte (slice_index run.now it.0) ≡ false) }
-        ensures whole { IfOk result (λ it. IfSome it.1 (λ next. IsWhole table.now kind (drop it.0 run.now) next.0 next.1)) }
+    fn gather_from(&mut self, count: usize, table: &Table, kind: RawKind, run: &Run) -> FrontRead
+        requires gathered { IsGathered table.now kind run.now.text.now run.now.at count self.old }
+        ensures gathered { MatchResult result (λ front. IsGathered table.now kind run.now.text.now run.now.at front.count self.new) (λ e. e ≡ Refusal.Memory) }
+        ensures ends { IfOk result (λ front. front.count < length run.now.text.now → is_text_byte (slice_index run.now.text.now front.count) ≡ false) }
+        ensures whole { IfOk result (λ front. IfSome front.next (λ it. IsWhole table.now kind (drop front.count run.now.text.now) it.found it.size)) }
     {
         let mut count = count;
         loop {
-            count += self.add_text(&run[count..])?;
-            if count == run.len() {
-                return Ok((count, None));
+            count += self.add_text(&run.text[count..])?;
+            if count == run.text.len() {
+                return Ok(Front { count, next: None });
             }
-            let rest = &run[count..];
+            let rest = &run.text[count..];
             match at_ampersand(table, kind, rest) {
                 Ampersand::Text(size) => {
-                    self.add_bare(rest, size, at + count as u64)?;
+                    self.add_bare(rest, size, run.at + count as u64)?;
                     count += size;
                 }
-                Ampersand::Whole(found, size) => {
-                    if !are_some(found.characters) {
-                        return Ok((count, Some((found, size))));
+                Ampersand::Whole(whole) => {
+                    if !are_some(whole.found.characters) {
+                        return Ok(Front {
+                            count,
+                            next: Some(whole),
+                        });
                     }
-                    count += self.add_reference(&found, size, at + count as u64)?;
+                    count += self.add_reference(&whole, run.at + count as u64)?;
                 }
-                Ampersand::Open => return Ok((count, None)),
+                Ampersand::Open => return Ok(Front { count, next: None }),
             }
         }
     }
 
     /// Adds a whole reference. Returns its length.
     #[inline(always)]
-    fn add_reference(&mut self, found: &Reference, size: usize, at: u64) -> Taken
-        requires some { list_all is_not_null (characters_of found.now.characters) ≡ true }
-        requires left { found.now.left ≤ size }
-        requires within { size < MAX_INPUT }
-        ensures adds { (table : Entities) (kind : Kind) (run : List ℕ) → IsUtf8 run → IsWhole table kind run found.now size
+    fn add_reference(&mut self, whole: &WholeReference, at: u64) -> Taken
+        requires some { list_all is_not_null (characters_of whole.now.found.characters) ≡ true }
+        requires left { whole.now.found.left ≤ whole.now.size }
+        requires within { whole.now.size < MAX_INPUT }
+        ensures adds { (table : Entities) (kind : Kind) (run : List ℕ) → IsUtf8 run → IsWhole table kind run whole.now.found whole.now.size
             → MatchResult result (λ own. AddsReferences table kind run at own self.old self.new) (λ e. e ≡ Refusal.Memory) }
         ensures some { IfOk result (λ own. 0 < own) }
     {
-        tell_known(found, at, &mut self.raised)?;
-        self.text.push_characters(found.characters)?;
-        Ok(1 + size - found.left)
+        tell_known(&whole.found, at, &mut self.raised)?;
+        self.text.push_characters(whole.found.characters)?;
+        Ok(1 + whole.size - whole.found.left)
     }
 
     /// Adds the text at the front of a run. Returns its length.

@@ -1,10 +1,10 @@
-use Rattle.htoken.proofs.Names.{◌∙◌, ℕ, List, [], refl, subst, take, length, sym, placed, front_of, ascii_cut, edge_of, IsInTag, IsTagName, named_alone, named_plain, named_within}
+use Rattle.htoken.proofs.Names.{◌∙◌, ℕ, List, [], refl, subst, take, length, sym, placed, front_of, ascii_cut, edge_of, IsInTag, IsTagName, named_alone, named_plain, named_within, rules}
 use Rattle.htoken.proofs.Fronts.{plain_ascii}
 use Rattle.htoken.proofs.tokenizer.Tokenizer.begin_start_tag.Goals as goal
 
 pub returns : goal.returns
 returns c =
-    let run = c.args.run.now in
+    let run = c.args.run.now.text.now in
     let size = c.args.size in
     let part_is = c.range.ensures.value ∙ front_of size run in (
       refl,
@@ -20,6 +20,6 @@ returns c =
 
 pub range-requires-clause-end_boundary : goal.range-requires-clause-end_boundary
 range-requires-clause-end_boundary c =
-    let run = c.args.run.now in
+    let run = c.args.run.now.text.now in
     let size = c.args.size in
-    edge_of size run (ascii_cut size run (named_within [] run size c.requires.named) (plain_ascii (take size run) (named_plain [] run size c.requires.named)) c.utf8.run)
+    edge_of size run (ascii_cut size run (named_within [] run size c.requires.named) (plain_ascii (take size run) (named_plain [] run size c.requires.named)) (search rules))

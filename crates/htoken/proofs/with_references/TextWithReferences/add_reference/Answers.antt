@@ -8,4 +8,4 @@ returns-in_err-tell_known-clause-adds c = rw (err_is c.from_residual.result _ c.
 
 pub returns-clause-adds : goal.returns-clause-adds
 returns-clause-adds c = λ table kind run u is.
-    reference_adds table kind run c.args.at u c.args.found.now c.args.size is _ refl c.requires.some c.args.self.now _ c.in_ok-tell_known.ensures c.in_ok-push_characters.ensures.text c.in_ok-push_characters.ensures.utf8
+    reference_adds table kind run c.args.at u c.args.whole.now.found c.args.whole.now.size is _ refl c.requires.some c.args.self.now _ c.in_ok-tell_known.ensures c.in_ok-push_characters.ensures.text c.in_ok-push_characters.ensures.utf8

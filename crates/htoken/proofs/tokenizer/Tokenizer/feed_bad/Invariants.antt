@@ -1,5 +1,5 @@
 use Rattle.htoken.proofs.Names.{◌-◌, ◌≤◌, List, Ok, Placed, RawKind, Texts, Grows, Entities, replacement_run, Event, gives_item, HasTaken, Takes}
-use Rattle.htoken.proofs.tokenizer.Tokenizer.bad_by_one.Given as goal
+use Rattle.htoken.proofs.tokenizer.Tokenizer.feed_bad.Given as goal
 
 -- This many of them have been taken.
 abbrev pub invariant-loop-fed : goal.invariant-loop-fed
