@@ -34,7 +34,7 @@ of_front table start t names text taken (in_ambiguous_ampersand h) more end =
     record {
       spans = st.spans;
       rest = more;
-      later = later_errors h.amp more;
+      later = later_errors t.at more;
       text_is = ap (λ (x : List Placed). x ++ more) st.front_is;
       cut = st.cut;
       tokens_are = st.tokens_are;

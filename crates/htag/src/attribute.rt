@@ -60,10 +60,14 @@ impl<'t> TagWalk<'t> {
             }
             TagState::AttributeName => self.in_attribute_name(false, next, errors),
             TagState::AfterAttributeName => self.in_attribute_name(true, next, errors),
-            TagState::BeforeAttributeValue => self.before_value(table, next, errors),
-            TagState::AttributeValueQuoted(mark) => self.in_quotes(table, mark, next, errors),
-            TagState::AttributeValueUnquoted => self.in_value_unquoted(table, next, errors),
-            TagState::AfterAttributeValueQuoted => self.after_value_quoted(next, errors),
+            TagState::BeforeAttributeValue => self.before_attribute_value(table, next, errors),
+            TagState::AttributeValueQuoted(mark) => self.in_attribute_value_quoted(
+                table, mark, next, errors,
+            ),
+            TagState::AttributeValueUnquoted => self.in_attribute_value_unquoted(
+                table, next, errors,
+            ),
+            TagState::AfterAttributeValueQuoted => self.after_attribute_value_quoted(next, errors),
         }
     }
 
@@ -103,7 +107,12 @@ impl<'t> TagWalk<'t> {
 
     /// The before attribute value state (`#before-attribute-value-state`).
     #[inline(always)]
-    fn before_value(&mut self, table: &'t Table, next: Placed, errors: &mut Errors) -> Past
+    fn before_attribute_value(
+        &mut self,
+        table: &'t Table,
+        next: Placed,
+        errors: &mut Errors,
+    ) -> Past
         requires { self.old.phase ≡ TagState.BeforeAttributeValue }
         ensures takes { (names : Texts) → StepsInAttribute table.now names self.old next errors.old.items result self.new errors.new.items }
         ensures kind { OnOk result (self.new.kind ≡ self.old.kind) }
@@ -127,7 +136,13 @@ impl<'t> TagWalk<'t> {
     /// The attribute value (double-quoted) and attribute value (single-quoted) states (`#attribute-value-(double-quoted)-state`,
     /// `#attribute-value-(single-quoted)-state`).
     #[inline(always)]
-    fn in_quotes(&mut self, table: &'t Table, mark: char, next: Placed, errors: &mut Errors) -> Past
+    fn in_attribute_value_quoted(
+        &mut self,
+        table: &'t Table,
+        mark: char,
+        next: Placed,
+        errors: &mut Errors,
+    ) -> Past
         requires { self.old.phase ≡ TagState.AttributeValueQuoted mark }
         ensures takes { (names : Texts) → StepsInAttribute table.now names self.old next errors.old.items result self.new errors.new.items }
         ensures kind { OnOk result (self.new.kind ≡ self.old.kind) }
@@ -142,7 +157,12 @@ impl<'t> TagWalk<'t> {
     }
 
     /// The attribute value (unquoted) state (`#attribute-value-(unquoted)-state`).
-    fn in_value_unquoted(&mut self, table: &'t Table, next: Placed, errors: &mut Errors) -> Past
+    fn in_attribute_value_unquoted(
+        &mut self,
+        table: &'t Table,
+        next: Placed,
+        errors: &mut Errors,
+    ) -> Past
         requires { self.old.phase ≡ TagState.AttributeValueUnquoted }
         ensures takes { (names : Texts) → StepsInAttribute table.now names self.old next errors.old.items result self.new errors.new.items }
         ensures kind { OnOk result (self.new.kind ≡ self.old.kind) }
@@ -157,7 +177,7 @@ impl<'t> TagWalk<'t> {
 
     /// The after attribute value (quoted) state (`#after-attribute-value-(quoted)-state`).
     #[inline(always)]
-    fn after_value_quoted(&mut self, next: Placed, errors: &mut Errors) -> Past
+    fn after_attribute_value_quoted(&mut self, next: Placed, errors: &mut Errors) -> Past
         requires { self.old.phase ≡ TagState.AfterAttributeValueQuoted }
         ensures takes { (table : Entities) (names : Texts) → StepsInAttribute table names self.old next errors.old.items result self.new errors.new.items }
         ensures kind { OnOk result (self.new.kind ≡ self.old.kind) }

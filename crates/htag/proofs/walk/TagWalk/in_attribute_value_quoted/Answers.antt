@@ -1,7 +1,7 @@
 use Rattle.htag.proofs.Vocabulary.{◌≡◌, true, false, not, eqb, ap, refl, and_both, arith, nat_tests}
 use Rattle.htag.proofs.Going.{quoted_goes_on}
 use Rattle.htag.proofs.Values.{quote_closes}
-use Rattle.htag.proofs.walk.TagWalk.in_quotes.Goals as goal
+use Rattle.htag.proofs.walk.TagWalk.in_attribute_value_quoted.Goals as goal
 
 pub returns-then-next-mark-clause-takes : goal.returns-then-next-mark-clause-takes
 returns-then-next-mark-clause-takes c = λ names body h. quote_closes _ _ _ body _ _ h c.args.mark _ _ (record { kind_is = refl; name_is = refl; attrs_are = refl; seen_is = refl; any_is = refl }) refl refl c.in_ok-end.ensures c.requires refl c.if-next-mark.true

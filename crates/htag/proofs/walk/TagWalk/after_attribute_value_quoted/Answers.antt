@@ -1,6 +1,6 @@
 use Rattle.htag.proofs.Vocabulary.{◌∙◌, ap, Bool, ◌++◌, not, MissingWhitespaceBetweenAttributes, error_if}
 use Rattle.htag.proofs.Values.{quoted_ends}
-use Rattle.htag.proofs.walk.TagWalk.after_value_quoted.Goals as goal
+use Rattle.htag.proofs.walk.TagWalk.after_attribute_value_quoted.Goals as goal
 
 pub returns-clause-takes : goal.returns-clause-takes
 returns-clause-takes c = λ table names body h after walk later ends.

@@ -1,6 +1,6 @@
 use Rattle.htag.proofs.Vocabulary.{◌≡◌, true, not, ◌||◌, refl, arith, nat_tests, is_space, is_quote, is_greater, ends_unquoted}
 use Rattle.htag.proofs.Values.{space_after_equals, quote_follows, no_value_ends, unquoted_begins}
-use Rattle.htag.proofs.walk.TagWalk.before_value.Goals as goal
+use Rattle.htag.proofs.walk.TagWalk.before_attribute_value.Goals as goal
 
 pub returns-then-is_ascii_whitespace-clause-takes : goal.returns-then-is_ascii_whitespace-clause-takes
 returns-then-is_ascii_whitespace-clause-takes c = λ names body h.

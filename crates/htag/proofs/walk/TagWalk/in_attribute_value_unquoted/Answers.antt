@@ -1,7 +1,7 @@
 use Rattle.htag.proofs.Vocabulary.{◌≡◌, true, not, and_both, refl, arith, nat_tests, ends_unquoted}
 use Rattle.htag.proofs.Going.{unquoted_goes_on}
 use Rattle.htag.proofs.Values.{unquoted_ends}
-use Rattle.htag.proofs.walk.TagWalk.in_value_unquoted.Goals as goal
+use Rattle.htag.proofs.walk.TagWalk.in_attribute_value_unquoted.Goals as goal
 
 pub returns-then-next-eq62-clause-takes : goal.returns-then-next-eq62-clause-takes
 returns-then-next-eq62-clause-takes c = λ names body h after walk later ends.
