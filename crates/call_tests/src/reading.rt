@@ -44,15 +44,9 @@ const ENDED: [(&str, u32, &str, Refusal); 5] = [
     ),
 ];
 
-/// Whether a sink with room for so many items takes this of an input, and refuses one more where that ends the reading.
-fn takes(
-    alloc: Global,
-    options: &Options<'_>,
-    input: &str,
-    left: u32,
-    text: &str,
-    refusal: Refusal,
-) -> bool {
+/// Whether a sink with that room takes this of the input, and refuses one more where that ends the reading.
+fn takes(alloc: Global, options: &Options<'_>, it: &(&str, u32, &str, Refusal)) -> bool {
+    let (input, left, text, refusal) = *it;
     let mut source = Counted::new(Broken(input.as_bytes()));
     let (sink, answer) = read_into(alloc, 2, options, Taken::new(alloc, left), &mut source);
     let refused = u32::from(refusal == Refusal::Write);
@@ -64,11 +58,7 @@ fn all_take(alloc: Global) -> Result<bool, Refusal> {
     let table = Table::core(alloc)?;
     let quirks = Quirks::read(alloc, "")?;
     let options = Options::new(&table, &quirks, Keys::for_tests());
-    Ok(
-        ENDED.iter().all(|(input, left, text, refusal)| {
-            takes(alloc, &options, input, *left, text, *refusal)
-        }),
-    )
+    Ok(ENDED.iter().all(|it| takes(alloc, &options, it)))
 }
 
 #[test]
