@@ -1,5 +1,5 @@
 -- What the rows say after a write, and after a push.
-use Rattle.hnodes.proofs.Names.{◌≡◌, ◌≢◌, ℕ, zero, suc, ◌<◌, List, [], ◌∷◌, ◌++◌, Some, length, get_or, set, refl, sym, ◌∙◌, ap, subst, arith, option_map, Row, at_row, row_of, look_in, contents_of, AreKept, IsAmong, IsChanged, IsGrown, IsKept, Node, NodeData, Store, eqb, cond, Option, None, Look, with_last, with_previous, with_place, after_link, before_link, spliced, detached, IsSeenAs, All, HoldsAt, length-map, map-append}
+use Rattle.hnodes.proofs.Names.{◌≡◌, ℕ, zero, suc, ◌<◌, List, [], ◌∷◌, ◌++◌, Some, length, get_or, set, refl, sym, ◌∙◌, ap, subst, arith, option_map, Row, at_row, row_of, look_in, contents_of, AreKept, IsAmong, IsChanged, IsGrown, IsKept, Node, NodeData, Store, eqb, cond, Option, None, Look, with_last, with_previous, with_place, after_link, before_link, spliced, detached, IsSeenAs, All, HoldsAt, length-map, map-append}
 use Rattle.std.proofs.Math.ListN.{get_or-map}
 use Rattle.std.proofs.Math.Seq.{map-set, map-set_same}
 use Rattle.std.proofs.lemmas.List.Elements.{All-push, All-set}
@@ -13,20 +13,11 @@ pub neighbours : (count : ℕ) (xs : List Node) (k j : ℕ) (x : Node) → j ≡
 neighbours count = read_at (IsAmong count)
 
 module _ (s : Store) where
-  look_in-other : (xs : List Node) (k : ℕ) (y : Node) (n : ℕ) → n ≢ k → look_in s (set xs k y) n ≡ look_in s xs n
-  look_in-other [] k y n h = refl
-  look_in-other (z ∷ zs) zero y zero h = absurd (h refl)
-  look_in-other (z ∷ zs) zero y (suc n) h = refl
-  look_in-other (z ∷ zs) (suc k) y zero h = refl
-  look_in-other (z ∷ zs) (suc k) y (suc n) h = look_in-other zs k y n (λ e. h (ap suc e))
-
-  look_in-same : (xs : List Node) (k : ℕ) (x y : Node) (f : Row ℕ → Row ℕ) → k < length xs → x ≡ get_or xs k x → row_of s y ≡ f (row_of s x) → look_in s (set xs k y) k ≡ option_map f (look_in s xs k)
-  look_in-same [] k x y f h e r = absurd (omega arith)
-  look_in-same (z ∷ zs) zero x y f h e r = ap (λ m. Some m) (r ∙ ap (λ m. f (row_of s m)) e)
-  look_in-same (z ∷ zs) (suc k) x y f h e r = look_in-same zs k x y f (omega arith) e r
-
   pub look_in-set : (xs : List Node) (k : ℕ) (x y : Node) (f : Row ℕ → Row ℕ) → k < length xs → x ≡ get_or xs k x → row_of s y ≡ f (row_of s x) → (n : ℕ) → look_in s (set xs k y) n ≡ at_row k f (look_in s xs) n
-  look_in-set xs k x y f h e r n = grind (arith, look_in-same, look_in-other)
+  look_in-set [] k x y f h e r n = absurd (omega arith)
+  look_in-set (z ∷ zs) zero x y f h e r zero = ap (λ m. Some m) (r ∙ ap (λ m. f (row_of s m)) e)
+  look_in-set (z ∷ zs) (suc k) x y f h e r (suc n) = grind (arith, look_in-set zs k x y f (omega arith) e r n)
+  look_in-set (z ∷ zs) _ x y f h e r _ = grind arith
 
   pub look_in-at : (xs : List Node) (k : ℕ) (x : Node) → k < length xs → look_in s xs k ≡ Some (row_of s (get_or xs k x))
   look_in-at [] k x h = absurd (omega arith)

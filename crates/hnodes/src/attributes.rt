@@ -1,6 +1,6 @@
 //! The attributes of an element that has many.
 
-ghost use Rattle.std.specs.Prelude.{◌≡◌, ◌&&◌, ◌++◌, ◌∷◌, [], suc, length, map, nat_eq, not, take, OnOk, OnErr, IfOk};
+ghost use Rattle.std.specs.Prelude.{◌≡◌, ◌++◌, ◌∷◌, [], suc, length, map, nat_eq, take, OnOk, OnErr, IfOk};
 ghost use Rattle.std.specs.List.{list_any};
 ghost use Rattle.hnodes.specs.Vocabulary.{are_clean, attribute_of, has_no_null_or_return, names_differ, names_end, attr_numbers};
 
@@ -179,19 +179,12 @@ impl Indexed {
             || has_name(Attrs::listed(&self.attrs[self.names.len()..]), name)
     }
 
-    /// Whether the names differ with one more.
-    fn differ_from(&self, name: NameId) -> bool
-        ensures { result ≡ (names_differ nat_eq self.now && not (list_any (λ a. nat_eq a.0 name) self.now)) }
-    {
-        self.differ && !self.has(name)
-    }
-
     pub(crate) fn push(&mut self, attr: Attr) -> Result<(), AllocError>
         ensures ok { OnOk result (self.new ≡ self.old ++ attribute_of attr ∷ []) }
         ensures err { OnErr result (self.new ≡ self.old) }
     {
         self.index()?;
-        let differ = self.differ_from(attr.name());
+        let differ = self.differ && !self.has(attr.name());
         self.attrs.push(attr)?;
         self.differ = differ;
         Ok(())

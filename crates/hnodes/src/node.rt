@@ -209,7 +209,6 @@ fn element(name: NameId, attrs: &mut Vec<Attr>, store: &mut Store) -> Result<Nod
     wide(name, taken(attrs, store.alloc)?, store.alloc)
 }
 
-/// An element with an index of its attributes.
 #[inline(never)]
 fn wide(name: NameId, attrs: Vec<Attr>, alloc: Global) -> Result<NodeData, AllocError>
     ensures { IfOk result (λ c. (store : Store) → Holds store c (element name (map attribute_of attrs.items))) }
@@ -294,7 +293,6 @@ impl NodeData {
     }
 }
 
-/// Copies of attributes, and one more.
 fn with(attrs: Attrs, attr: Attr, alloc: Global) -> Result<Vec<Attr>, AllocError>
     ensures { IfOk result (λ own. map attribute_of own.items ≡ attrs.entry ++ attribute_of attr ∷ []) }
 {

@@ -72,10 +72,8 @@ impl Listed {
     {
         let found = look_at(attrs, alloc)?;
         if found.is_none() && attrs.len() == 1 {
-            if let Some(attr) = attrs.pop() {
-                let held = Held::One(attr);
-                return Ok(Listed { held });
-            }
+            let held = Held::One(attrs.pop().unwrap());
+            return Ok(Listed { held });
         }
         let held = Held::Others(taken(attrs, alloc)?, found);
         Ok(Listed { held })

@@ -23,7 +23,6 @@ impl Run {
         Run { start: 0, len: 0 }
     }
 
-    /// A run, if its numbers fit.
     #[inline(always)]
     fn of(start: usize, len: usize) -> Option<Run>
         ensures { IfSome result (λ run. run ≡ record { start = start; len = len }) }
@@ -113,7 +112,6 @@ impl Texts {
     }
 }
 
-/// Fills a vector up to an end at least.
 #[inline(always)]
 fn fill(filled: &mut Vec<u8>, end: usize) -> Result<(), AllocError>
     ensures same { take (length filled.old.items) filled.new.items ≡ filled.old.items }
