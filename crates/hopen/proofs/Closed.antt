@@ -1,5 +1,5 @@
 -- The holes of a list taken out, and the numbers of what is left.
-use Rattle.hopen.proofs.Names.{common_steps, ◌≡◌, ℕ, ◌+◌, ◌<◌, ◌≤◌, ◌==◌, Bool, true, false, not, cond, eqb, is_some, List, [], ◌∷◌, ◌++◌, length, get_or, take, drop, set, map, filter, refl, sym, ◌∙◌, ap, arith, subst, All, swap, not-true, append-nil, append_assoc, drop-map, drop-set-lt, length-append, length-take-le, map-append, take-map, swap_is, All-append, All-drop, All-get_or, All-head, All-tail, All-take, filter-append, entry_hash, none, EntryOf, IsStored, is_gone, item_of, AreSlotsListed, by_hash, by_name, by_node, number_by, numbers_by, unless_hole, Stored, Slots, nat_tests, between, drop_more, get_or-append_right, take-set-le, take_more, between_more, length-swap, swapped_from_swap, All-filter, filter_passes}
+use Rattle.hopen.proofs.Names.{common_steps, ◌≡◌, ℕ, ◌+◌, ◌<◌, ◌≤◌, ◌==◌, Bool, true, false, not, cond, eqb, is_some, List, [], ◌∷◌, ◌++◌, length, get_or, take, drop, set, map, filter, refl, sym, ◌∙◌, ap, arith, subst, All, swap, not-true, append-nil, append_assoc, drop-map, drop-set-lt, length-append, length-take-le, map-append, take-map, swap_is, All-append, All-drop, All-get_or, All-head, All-tail, All-take, filter-append, entry_hash, none, EntryOf, IsStored, is_gone, item_of, AreListed, Option, DefaultHasher, by_hash, by_name, by_node, number_by, numbers_by, unless_hole, Stored, Slots, nat_tests, between, drop_more, get_or-append_right, take-set-le, take_more, between_more, length-swap, swapped_from_swap, All-filter, filter_passes}
 use Rattle.hopen.specs.declared.entry.Slot.TheVariants as stored
 use Rattle.hopen.proofs.Moved.{NoHoleFrom}
 
@@ -30,24 +30,26 @@ solid-closed : (items : List Stored) (from : ℕ) → from ≤ length items → 
 solid-closed items from h k above l x = grind (arith, length-take-le, length-append, not-true, get_or-append_right, All-get_or, filter_passes)
 
 -- what is kept of the list
-pub listed-closed : (from : ℕ) (old new : Slots) → AreSlotsListed old → new.keys ≡ old.keys → from ≤ length old.items.items
-    → new.names ≡ take from old.names ++ filter (λ n. not (n == none)) (drop from old.names)
-    → (is_some old.keys ≡ true → new.hashes ≡ take from old.hashes ++ filter (λ n. not (n == none)) (drop from old.hashes))
-    → new.nodes ≡ take from old.nodes ++ filter (λ n. not (n == none)) (drop from old.nodes)
-    → new.solid ≡ from → new.items.items ≡ closed old.items.items from → AreSlotsListed new
-listed-closed from old new listed keys h names hashes nodes solid items =
+pub listed-closed : (from : ℕ) (old : Slots)
+    {new_names new_hashes new_nodes : List ℕ} {new_keys : Option DefaultHasher} {new_items : List Stored} {new_solid : ℕ}
+    → new_keys ≡ old.keys → from ≤ length old.items.items
+    → new_names ≡ take from old.names ++ filter (λ n. not (n == none)) (drop from old.names)
+    → (is_some old.keys ≡ true → new_hashes ≡ take from old.hashes ++ filter (λ n. not (n == none)) (drop from old.hashes))
+    → new_nodes ≡ take from old.nodes ++ filter (λ n. not (n == none)) (drop from old.nodes)
+    → new_solid ≡ from → new_items ≡ closed old.items.items from → AreListed new_names new_hashes new_nodes new_keys new_items new_solid
+listed-closed from old {new_items = new_items} keys h names hashes nodes solid items =
     let xs = old.items.items in
     let kept = filter stays (drop from xs) in
     record {
-      names = names ∙ numbers-closed (λ e. e.name) xs from old.names listed.stored listed.names ∙ ap (numbers_by by_name) (sym items);
+      names = names ∙ numbers-closed (λ e. e.name) xs from old.names old.listed.stored old.listed.names ∙ ap (numbers_by by_name) (sym items);
       hashes = λ some. let there = ap is_some (sym keys) ∙ some in
-          hashes there ∙ numbers-closed (entry_hash old.keys) xs from old.hashes listed.stored (listed.hashes there)
+          hashes there ∙ numbers-closed (entry_hash old.keys) xs from old.hashes old.listed.stored (old.listed.hashes there)
           ∙ (λ i. numbers_by (by_hash (sym keys i)) (sym items i));
-      nodes = nodes ∙ numbers-closed (λ e. e.node) xs from old.nodes listed.stored listed.nodes ∙ ap (numbers_by by_node) (sym items);
-      stored = subst (All IsStored) (sym items) (All-append IsStored (take from xs) kept (All-take IsStored from xs listed.stored)
-          (All-filter stays IsStored (drop from xs) (All-drop IsStored from xs listed.stored)));
+      nodes = nodes ∙ numbers-closed (λ e. e.node) xs from old.nodes old.listed.stored old.listed.nodes ∙ ap (numbers_by by_node) (sym items);
+      stored = subst (All IsStored) (sym items) (All-append IsStored (take from xs) kept (All-take IsStored from xs old.listed.stored)
+          (All-filter stays IsStored (drop from xs) (All-drop IsStored from xs old.listed.stored)));
       within = omega (arith, solid, ap length items, length-append (take from xs) kept, length-take-le from xs h);
-      solid = subst (λ n. NoHoleFrom n new.items.items) (sym solid) (subst (NoHoleFrom from) (sym items) (solid-closed xs from h));
+      solid = subst (λ n. NoHoleFrom n new_items) (sym solid) (subst (NoHoleFrom from) (sym items) (solid-closed xs from h));
     }
 
 -- How far the holes are taken out: what is left of the items before an index comes first, and those from it on are as they were.

@@ -5,7 +5,7 @@ use Rattle.hopen.proofs.Held.{held, some≢none}
 use Rattle.hopen.proofs.Linked.{either}
 use Rattle.hopen.proofs.NearestUp.{nearest-neutral, nearest-plain}
 use Rattle.hopen.proofs.Projected.{node-at, opened-at, part-at}
-use Rattle.hopen.proofs.Swapped.{left-alone, linked-fresh, walk-in}
+use Rattle.hopen.proofs.Swapped.{left-alone, linked-fresh}
 
 -- what each slot keeps stays where a node of no set changes
 pub sets-neutral : (ys : List (Option (OpenNode ℕ))) (sets : List SetNodes) (i : ℕ) (x : OpenNode ℕ) (z : Option (OpenNode ℕ)) → i < length ys
@@ -39,9 +39,6 @@ module _ (last : LastLevels) (items : List KeptNode) (i : ℕ) (x : KeptNode) (s
 
   nodes-within : i < length (slot_nodes ys)
   nodes-within = omega (arith, length-map ys open_node, many)
-
-  pub node-known : x.opened.node < length last.nodes.items
-  node-known = walk-in last.nodes.items (slot_nodes ys) (map same_node_of items) s.nodes i x.opened.node node-here nodes-within
 
   closed : sum_by closing (set (map kept_kind_at items) i kind.Hole) + closing x.kind ≡ sum_by closing (map kept_kind_at items)
   closed =

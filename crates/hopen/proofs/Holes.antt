@@ -1,5 +1,5 @@
 -- Vectors of items with holes, and where the entry of a node is in them.
-use Rattle.hopen.proofs.Names.{last_place, position-some, ◌≡◌, if◌then◌else◌, ℕ, zero, suc, ◌+◌, ◌-◌, ◌<◌, ◌≤◌, eqb, Bool, true, false, cond, not, List, [], ◌∷◌, ◌++◌, Option, Some, None, is_some, length, map, filter, take, take-suc, drop, get_or, refl, sym, ◌∙◌, ap, subst, arith, All, position, list_any, slice_get, find, option_and_then, option_map, eqb-zero-suc, append-nil, get_or-map, length-append, length-map, All-drop, All-take, filter-append, EntryOf, Listed, marker, entry, as_entry, entry_of, for_node, is_entry, nth_live, AreSlots, IsSlot, IsStored, hole, is_gone, is_listed_hole, item_of, listed_items, live, nowhere, stored_entry, by_node, number_by, unless_hole, changed_at, Stored, is_some-position, slice_get_nearest, common_steps, nat_tests, drop_at, take-append-drop, take_at, AreSlotsListed, Slots, ◌==◌, reverse, last_up, get_nearest, reverse_split, ltb, ltb-true, eqb-true, up-found, up-within, take-map}
+use Rattle.hopen.proofs.Names.{last_place, position-some, ◌≡◌, if◌then◌else◌, ℕ, zero, suc, ◌+◌, ◌-◌, ◌<◌, ◌≤◌, eqb, Bool, true, false, cond, not, List, [], ◌∷◌, ◌++◌, Option, Some, None, is_some, length, map, filter, take, drop, get_or, refl, sym, ◌∙◌, ap, subst, arith, All, position, list_any, slice_get, find, option_and_then, option_map, eqb-zero-suc, append-nil, get_or-map, length-append, length-map, All-drop, All-take, filter-append, EntryOf, Listed, marker, entry, as_entry, entry_of, for_node, is_entry, nth_live, AreSlots, IsSlot, IsStored, hole, is_gone, is_listed_hole, item_of, listed_items, live, nowhere, stored_entry, by_node, number_by, unless_hole, changed_at, Stored, is_some-position, slice_get_nearest, common_steps, nat_tests, drop_at, take-append-drop, take_at, Slots, ◌==◌, reverse, last_up, get_nearest, reverse_split, ltb, ltb-true, eqb-true, up-found, up-within, take-map}
 use Rattle.hopen.specs.declared.entry.Slot.TheVariants as stored
 use Rattle.hopen.proofs.ByHash.{last-at, number-at}
 use Rattle.hopen.proofs.ItemLists.{along_last, items_of_more, length-items_of}
@@ -58,21 +58,6 @@ live-tail items from all =
     (live-closed (drop from items) (All-drop IsStored from items all))
     ∙ sym (live-parts (take from items) (drop from items)) ∙ ap (λ xs. live (listed_items xs)) (take-append-drop from items)
 
--- one item more on the way from the last one on
-pub taken : (items : List Stored) (k j : ℕ) (x : Stored) → k ≡ suc j → j < length items → x ≡ get_or items j x
-    → listed_items (take k items) ≡ item_of x ∷ listed_items (take j items)
-taken items k j x next within is = ap (λ n. listed_items (take n items)) next ∙ ap listed_items (take-suc items j x within)
-    ∙ items_of_more (take j items) (get_or items j x) ∙ ap (λ y. item_of y ∷ listed_items (take j items)) (sym is)
-
-pub further : (c : ℕ) (o : Option ℕ) → option_map (λ k. c + k) (option_map suc o) ≡ option_map (λ k. suc c + k) o
-further c o = grind arith
-
--- a hole at the end leaves
-pub live-dropped : (items : List Stored) (k j : ℕ) (x : Stored) → k ≡ suc j → j < length items → x ≡ get_or items j x → is_listed_hole (item_of x) ≡ true
-    → live (listed_items (take k items)) ≡ live (listed_items (take j items))
-live-dropped items k j x next within is gone = ap live (taken items k j x next within is)
-    ∙ ap (λ v. cond (not v) (item_of x ∷ live (listed_items (take j items))) (live (listed_items (take j items)))) gone
-
 -- how many are live
 pub length-live : (items : List Stored) → All IsStored items → length (live (listed_items items)) ≡ length (filter (λ x. not (is_gone x)) items)
 length-live [] all = refl
@@ -111,9 +96,9 @@ abbrev pub node_place : ℕ → List (Listed ℕ) → ℕ
 node_place node items = place by_node (suc (suc node)) items
 
 -- as the numbers of the nodes tell it
-module _ (node number p : ℕ) (s : Slots) (l : AreSlotsListed s) (e : number ≡ suc (suc node)) (is : p ≡ last_up (λ k. k == number) s.nodes (length s.nodes)) where
+module _ {node number p : ℕ} (s : Slots) (e : number ≡ suc (suc node)) (is : p ≡ last_up (λ k. k == number) s.nodes (length s.nodes)) where
   pub placed : p ≡ node_place node (listed_items s.items.items)
-  placed = is ∙ last-is number s.nodes ∙ (λ i. last_of (e i) ((ap reverse l.nodes ∙ numbers-back by_node s.items.items) i))
+  placed = is ∙ last-is number s.nodes ∙ (λ i. last_of (e i) ((ap reverse s.listed.nodes ∙ numbers-back by_node s.items.items) i))
 
   pub placed-within : p ≤ length s.items.items
   placed-within = omega (arith, placed, place-le by_node (suc (suc node)) (listed_items s.items.items), length-items_of s.items.items)
@@ -155,7 +140,7 @@ module _ (node : ℕ) (low : node < nowhere) where
       position-some (is_entry node) items (p - 1) (sym (node-is items slots) ∙ omega arith) ∙ ap (λ k. Some k) up
 
 -- whether it has one before its last one, as the numbers of the nodes tell it
-module _ (node number p q : ℕ) (low : node < nowhere) (s : Slots) (l : AreSlotsListed s) (e : number ≡ suc (suc node))
+module _ (node number p q : ℕ) (low : node < nowhere) (s : Slots) (e : number ≡ suc (suc node))
     (is : p ≡ last_up (λ k. k == number) s.nodes (length s.nodes)) (some : 0 < p) where
   pub number-placed : get_or s.nodes (p - 1) 0 ≡ suc (suc node)
   number-placed = ap (λ k. get_or s.nodes (k - 1) 0) is ∙ eqb-true _ _ (up-found (λ k. k == number) s.nodes (length s.nodes) (omega (arith, is))) ∙ e
@@ -165,11 +150,11 @@ module _ (node number p q : ℕ) (low : node < nowhere) (s : Slots) (l : AreSlot
       let items = s.items.items in
       let within : p ≤ length s.nodes = omega (arith, is, up-within (λ k. k == number) s.nodes (length s.nodes)) in
       let numbers : reverse (take (p - 1) s.nodes) ≡ map (number_by by_node) (listed_items (take (p - 1) items)) =
-      ap (λ ns. reverse (take (p - 1) ns)) l.nodes ∙ ap reverse (take-map (λ i. number_by by_node (item_of i)) (p - 1) items)
+      ap (λ ns. reverse (take (p - 1) ns)) s.listed.nodes ∙ ap reverse (take-map (λ i. number_by by_node (item_of i)) (p - 1) items)
       ∙ numbers-back by_node (take (p - 1) items)
       in
       ap (ltb 0) (before ∙ before-is (get_or s.nodes (p - 1) 0) s.nodes (p - 1) (omega (arith, within)) ∙ (λ i. last_of (number-placed i) (numbers i)))
-      ∙ node-any node low (listed_items (take (p - 1) items)) (slots-are (take (p - 1) items) (All-take IsStored (p - 1) items l.stored))
+      ∙ node-any node low (listed_items (take (p - 1) items)) (slots-are (take (p - 1) items) (All-take IsStored (p - 1) items s.listed.stored))
 
 pub no-position : {X : Type 0} (sought : X → Bool) (xs : List X) → list_any sought xs ≡ false → position sought xs ≡ None
 no-position sought xs none = grind (arith, is_some-position sought xs)

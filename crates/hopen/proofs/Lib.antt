@@ -23,7 +23,6 @@ pub mod Live
 pub mod LiveEdits
 pub mod Moved
 pub mod Jumped
-pub mod Slotted
 pub mod Marked
 pub mod Closed
 pub mod Pushed
@@ -36,4 +35,3 @@ pub mod Passed
 pub mod Searches
 pub mod SetLevel
 pub mod Opened
-pub mod Ends

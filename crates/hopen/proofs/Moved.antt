@@ -1,6 +1,6 @@
 -- Exchanges in a list and what a run of them does; an entry that becomes that of another node, and where an entry
 -- is among the others.
-use Rattle.hopen.proofs.Names.{common_steps, map-set_same, ◌≡◌, ◌≢◌, ℕ, zero, suc, ◌+◌, ◌-◌, ◌<◌, ◌≤◌, ◌==◌, ◌⊎◌, inl, Bool, true, false, IsTrue, List, [], ◌∷◌, ◌++◌, Option, Some, is_some, length, get_or, set, take, drop, map, reverse, refl, sym, ◌∙◌, ap, arith, subst, All, insert, list_any, position, remove, swap, swap_is, length-swap, drop-set-lt, get_or-map, get_or-set_other, length-append, length-reverse, length-set, length-take-le, map-set, reverse-append, All-get_or, All-set, last_up, none, EntryOf, for_node, is_entry, IsStored, is_gone, item_of, listed_items, nowhere, moved_entry, stored_entry, DefaultHasher, AreSlotsListed, by_hash, by_name, by_node, number_by, numbers_by, changed_at, item_put_before, last_place, Stored, Slots, reverse-map, set_nearest, last_place-le, nat_tests, get_or-set_same, set-set, take-set, insert_nearest, position_nearest, position-none, position-some}
+use Rattle.hopen.proofs.Names.{common_steps, map-set_same, ◌≡◌, ◌≢◌, ℕ, zero, suc, ◌+◌, ◌-◌, ◌<◌, ◌≤◌, ◌==◌, ◌⊎◌, inl, Bool, true, false, IsTrue, List, [], ◌∷◌, ◌++◌, Option, Some, is_some, length, get_or, set, take, drop, map, reverse, refl, sym, ◌∙◌, ap, arith, subst, All, insert, list_any, position, remove, swap, swap_is, length-swap, drop-set-lt, get_or-map, get_or-set_other, length-append, length-reverse, length-set, length-take-le, map-set, reverse-append, All-get_or, All-set, last_up, none, EntryOf, for_node, is_entry, IsStored, is_gone, item_of, listed_items, nowhere, moved_entry, stored_entry, DefaultHasher, AreListed, by_hash, by_name, by_node, number_by, numbers_by, changed_at, item_put_before, last_place, Stored, Slots, reverse-map, set_nearest, last_place-le, nat_tests, get_or-set_same, set-set, take-set, insert_nearest, position_nearest, position-none, position-some}
 use Rattle.hopen.specs.declared.entry.Slot.TheVariants as stored
 use Rattle.hopen.proofs.ExchangedSlots.{reverse-set}
 use Rattle.hopen.proofs.Holes.{node-is, slots-are}
@@ -56,31 +56,32 @@ abbrev pub NoHoleFrom : ℕ → List Stored → Type 0
 NoHoleFrom from items = (i : ℕ) → from ≤ i → i < length items → (x : Stored) → is_gone (get_or items i x) ≡ false
 
 -- what is kept of the list, where all is exchanged alike
-module _ (i j : ℕ) (old new : Slots) (listed : AreSlotsListed old) (low : i < length old.items.items) (high : j < length old.items.items) where
+module _ (i j : ℕ) (old : Slots) (low : i < length old.items.items) (high : j < length old.items.items) where
   numbers-exchanged : (of : EntryOf ℕ → ℕ) (numbers : List ℕ) → numbers ≡ numbers_by of old.items.items
       → exchanged numbers i j 0 ≡ numbers_by of (exchanged old.items.items i j stored.Hole)
   numbers-exchanged of numbers are = ap (λ ns. exchanged ns i j 0) are ∙ sym (map-exchanged
       (λ x. number_by of (item_of x)) old.items.items i j stored.Hole 0 low high)
 
-  pub listed-exchanged : new.keys ≡ old.keys → new.names ≡ exchanged old.names i j 0 → (is_some old.keys ≡ true → new.hashes ≡ exchanged old.hashes i j 0)
-      → new.nodes ≡ exchanged old.nodes i j 0
-      → new.items.items ≡ swap old.items.items i j → (old.solid ≤ new.solid) × (i < new.solid) × (j < new.solid) × (new.solid ≤ length old.items.items)
-      → AreSlotsListed new
-  listed-exchanged keys names hashes nodes items bounds =
-      let xs = old.items.items in
-      let now : new.items.items ≡ exchanged xs i j stored.Hole = items ∙ sym (swap_is xs i j stored.Hole low high) in
-      let size : length new.items.items ≡ length xs = ap length items ∙ length-swap xs i j in
-      record {
-        names = names ∙ numbers-exchanged by_name old.names listed.names ∙ ap (numbers_by by_name) (sym now);
-        hashes = λ some. let there = ap is_some (sym keys) ∙ some in
-            hashes there ∙ numbers-exchanged (by_hash old.keys) old.hashes (listed.hashes there) ∙ (λ k. numbers_by (by_hash (sym keys k)) (sym now k));
-        nodes = nodes ∙ numbers-exchanged by_node old.nodes listed.nodes ∙ ap (numbers_by by_node) (sym now);
-        stored = subst (All IsStored) (sym now) (All-exchanged IsStored xs i j stored.Hole low high listed.stored);
-        within = omega (arith, size, bounds.3);
-        solid = λ k from to x.
-            ap (λ ys. is_gone (get_or ys k x)) now ∙ ap is_gone (exchanged-other xs i j k stored.Hole x (omega (arith, bounds.1)) (omega (arith, bounds.2)))
-            ∙ listed.solid k (omega (arith, bounds.0)) (omega (arith, size)) x;
-      }
+  module _ {new_names new_hashes new_nodes : List ℕ} {new_keys : Option DefaultHasher} {new_items : List Stored} {new_solid : ℕ} where
+    pub listed-exchanged : new_keys ≡ old.keys → new_names ≡ exchanged old.names i j 0 → (is_some old.keys ≡ true → new_hashes ≡ exchanged old.hashes i j 0)
+        → new_nodes ≡ exchanged old.nodes i j 0
+        → new_items ≡ swap old.items.items i j → (old.solid ≤ new_solid) × (i < new_solid) × (j < new_solid) × (new_solid ≤ length old.items.items)
+        → AreListed new_names new_hashes new_nodes new_keys new_items new_solid
+    listed-exchanged keys names hashes nodes items bounds =
+        let xs = old.items.items in
+        let now : new_items ≡ exchanged xs i j stored.Hole = items ∙ sym (swap_is xs i j stored.Hole low high) in
+        let size : length new_items ≡ length xs = ap length items ∙ length-swap xs i j in
+        record {
+          names = names ∙ numbers-exchanged by_name old.names old.listed.names ∙ ap (numbers_by by_name) (sym now);
+          hashes = λ some. let there = ap is_some (sym keys) ∙ some in
+              hashes there ∙ numbers-exchanged (by_hash old.keys) old.hashes (old.listed.hashes there) ∙ (λ k. numbers_by (by_hash (sym keys k)) (sym now k));
+          nodes = nodes ∙ numbers-exchanged by_node old.nodes old.listed.nodes ∙ ap (numbers_by by_node) (sym now);
+          stored = subst (All IsStored) (sym now) (All-exchanged IsStored xs i j stored.Hole low high old.listed.stored);
+          within = omega (arith, size, bounds.3);
+          solid = λ k from to x.
+              ap (λ ys. is_gone (get_or ys k x)) now ∙ ap is_gone (exchanged-other xs i j k stored.Hole x (omega (arith, bounds.1)) (omega (arith, bounds.2)))
+              ∙ old.listed.solid k (omega (arith, bounds.0)) (omega (arith, size)) x;
+        }
 
 -- an entry that becomes that of another node
 module _ (node : ℕ) where
@@ -120,29 +121,31 @@ module _ (node : ℕ) where
     renewed-items = set_nearest item_of (for_node node) items i (length items - 1 - i) stored.Hole (moved_entry node there) (omega arith) (renamed-item there some)
 
 -- what is kept of the list stays so
-pub listed-renewed : (node i : ℕ) (old new : Slots) → AreSlotsListed old → new.keys ≡ old.keys → i < length old.items.items
+pub listed-renewed : (node i : ℕ) (old : Slots)
+    {new_names new_hashes new_nodes : List ℕ} {new_keys : Option DefaultHasher} {new_items : List Stored} {new_solid : ℕ}
+    → new_keys ≡ old.keys → i < length old.items.items
     → is_some (stored_entry (get_or old.items.items i stored.Hole)) ≡ true → node < nowhere
-    → new.names ≡ old.names → new.hashes ≡ old.hashes → new.nodes ≡ set (set old.nodes i none) i (suc (suc node)) → new.solid ≡ old.solid
-    → new.items.items ≡ set old.items.items i (moved_entry node (get_or old.items.items i stored.Hole)) → AreSlotsListed new
-listed-renewed node i old new listed keys h some low names hashes nodes solid items =
+    → new_names ≡ old.names → new_hashes ≡ old.hashes → new_nodes ≡ set (set old.nodes i none) i (suc (suc node)) → new_solid ≡ old.solid
+    → new_items ≡ set old.items.items i (moved_entry node (get_or old.items.items i stored.Hole)) → AreListed new_names new_hashes new_nodes new_keys new_items new_solid
+listed-renewed node i old {new_items = new_items} keys h some low names hashes nodes solid items =
     let xs = old.items.items in
     let x = get_or xs i stored.Hole in
-    let stored : IsStored x = All-get_or IsStored xs i stored.Hole h listed.stored in
+    let stored : IsStored x = All-get_or IsStored xs i stored.Hole h old.listed.stored in
     let ns : set (set old.nodes i none) i (suc (suc node)) ≡ numbers_by by_node (set xs i (moved_entry node x)) =
-    set-set old.nodes i none (suc (suc node)) ∙ ap (λ l. set l i (suc (suc node))) listed.nodes
+    set-set old.nodes i none (suc (suc node)) ∙ ap (λ l. set l i (suc (suc node))) old.listed.nodes
     ∙ ap (set (numbers_by by_node xs) i) (sym (renamed-node node x some stored))
     ∙ sym (map-set (λ y. number_by by_node (item_of y)) xs i (moved_entry node x)) in
     record {
-      names = names ∙ listed.names ∙ sym (same-by node xs i h some (λ y. number_by by_name (item_of y)) (renamed-name node x))
+      names = names ∙ old.listed.names ∙ sym (same-by node xs i h some (λ y. number_by by_name (item_of y)) (renamed-name node x))
           ∙ ap (numbers_by by_name) (sym items);
-      hashes = λ there. hashes ∙ listed.hashes (ap is_some (sym keys) ∙ there) ∙ sym (same-by node xs i h some
+      hashes = λ there. hashes ∙ old.listed.hashes (ap is_some (sym keys) ∙ there) ∙ sym (same-by node xs i h some
           (λ y. number_by (by_hash old.keys) (item_of y)) (renamed-hash node old.keys x))
           ∙ (λ j. numbers_by (by_hash (sym keys j)) (sym items j));
       nodes = nodes ∙ ns ∙ ap (numbers_by by_node) (sym items);
-      stored = subst (All IsStored) (sym items) (All-set IsStored xs i (moved_entry node x) (renamed-stored node x low stored) listed.stored);
-      within = omega (arith, solid, ap length items, length-set xs i (moved_entry node x), listed.within);
-      solid = subst (λ n. NoHoleFrom n new.items.items) (sym solid) (subst (NoHoleFrom old.solid) (sym items)
-          (renewed-solid node xs i h some old.solid listed.solid));
+      stored = subst (All IsStored) (sym items) (All-set IsStored xs i (moved_entry node x) (renamed-stored node x low stored) old.listed.stored);
+      within = omega (arith, solid, ap length items, length-set xs i (moved_entry node x), old.listed.within);
+      solid = subst (λ n. NoHoleFrom n new_items) (sym solid) (subst (NoHoleFrom old.solid) (sym items)
+          (renewed-solid node xs i h some old.solid old.listed.solid));
     }
 
 -- what is in one list and in that list without a member that is not sought

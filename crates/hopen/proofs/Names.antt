@@ -15,8 +15,8 @@ pub use Rattle.hopen.specs.FormattingMapped.{FormattingKnowsNoNames, mapped_entr
 pub use Rattle.hopen.specs.Hashes.{entry_hash, distinct, hash_of, hash_put_in, token_hash}
 pub use Rattle.hopen.specs.Holes.{nth_live}
 pub use Rattle.hopen.specs.Items.{item_of, listed_items, IsStored, entry_is, is_gone, nowhere, AreSlots, IsSlot, hole, is_listed_hole, live, stored_entry, moved_entry}
-pub use Rattle.hopen.specs.Kept.{opened_by, LevelsStand, Rests, EndsOpen, slot_names, open_name, same_name_of, stack_of, slots_of, same_node_of, open_node, AreIn, IsIn, sets_at, kept_kind_at, kept_kind, closing, slot_nodes, IsLinked, IsLinkedTo, KeepSetsTo, LevelsTo, StandsTo, last_same, exchanged, level_exchanged, AreHoles, IsHeldLevel, KeepSets, nearest_in, nearest_up, CanGiveWay, IsAlone, IsBelow, AreAlike, AreAlikeButNames, AreAsLong, CanPass, StandsAs, HasRoom, is_hole as is_hole_kind}
-pub use Rattle.hopen.specs.Listed.{number_by, AreSlotsListed, by_hash, by_name, by_node, numbers_by, unless_hole}
+pub use Rattle.hopen.specs.Kept.{opened_by, LevelsStand, Rests, EndsOpen, slot_names, open_name, same_name_of, stack_of, slots_of, same_node_of, open_node, AreIn, IsIn, sets_at, kept_kind_at, kept_kind, closing, slot_nodes, IsLinked, IsLinkedTo, KeepSetsTo, LevelsTo, StandsTo, last_same, exchanged, level_exchanged, AreHoles, IsHeldLevel, KeepRoom, KeepSets, nearest_in, nearest_up, IsAlone, IsBelow, AreAlike, AreAlikeButNames, AreAsLong, CanPass, StandsAs, HasRoom, is_hole as is_hole_kind}
+pub use Rattle.hopen.specs.Listed.{number_by, AreListed, by_hash, by_name, by_node, numbers_by, unless_hole}
 pub use Rattle.hopen.specs.NameSets.{set_node, holds, is_in_set, is_in}
 pub use Rattle.hopen.specs.Opens.{open_of, is_sought}
 pub use Rattle.hopen.specs.Scopes.{is_named, is_of, is_of_group, stops_in_scope, stops_in}
@@ -53,9 +53,9 @@ pub use Rattle.std.proofs.lemmas.Bool.Decides.{nat_tests}
 pub use Rattle.std.proofs.lemmas.Cmp.{nat_cmp_total}
 pub use Rattle.std.proofs.lemmas.Grind.{common_steps}
 pub use Rattle.std.proofs.lemmas.Iterator.{YieldsList-from_slice}
-pub use Rattle.std.proofs.lemmas.Iterator.Adapters.{option_map_id}
-pub use Rattle.std.proofs.lemmas.Iterator.Consumers.{YieldsList-from_filter_map, nth_from_yields_List}
-pub use Rattle.std.proofs.lemmas.Iterator.Search.{any_from_yields_List, all_from_yields_List}
+pub use Rattle.std.proofs.lemmas.Iterator.Adapters.{YieldsList-from_rev_slice}
+pub use Rattle.std.proofs.lemmas.Iterator.Consumers.{YieldsList-from_filter, count_from_yields_List, nth_from_yields_List}
+pub use Rattle.std.proofs.lemmas.Iterator.Search.{any_from_yields_List, all_from_yields_List, find_from_yields_List}
 pub use Rattle.std.proofs.lemmas.List.{length-map, map-set, length-set, length-reverse, get_or-map, get_or-set_other, get_or_past, map-append, get_or-set_same, get_or_default, with_items_is, drop_at, length-take-le, take-map, drop-map, reverse-append, reverse-reverse, drop-drop, length-drop, take_all, drop-set, drop-set-lt, get_or_append_left, get_or_push, take_more_set, take_rest, get_or-reverse, append-nil, append_assoc, get_or_read, drop_more, get_or-append_right, get_or-drop, get_or-take, set-get_or, set-set, set_comm, set_split, take-append-drop, take-set, take-set-le, take_at, take_more, map-id, take-append-le, take-take, ext_get_or, append_cancel_left}
 pub use Rattle.std.proofs.lemmas.List.Edits.{length-insert, length-remove, swap_is, between_more, length-swap, swapped_from_swap}
 pub use Rattle.std.proofs.lemmas.List.Elements.{All-append, All-drop, All-get_or, All-head, All-tail, All-take, filter-append, All-set, All-cons, All-filter, filter_passes}

@@ -20,20 +20,6 @@ module _ {N : Type 0} where
   topmost-reverse tag (x ∷ xs) =
       ap (topmost_special tag) (reverse-append (x ∷ []) xs) ∙ topmost-append tag (reverse xs) (x ∷ []) ∙ rw (topmost-reverse tag xs) (grind arith)
 
--- what is left when nodes are popped up to one that is sought: where the current node is that one, where it is not, and where there is none
-module _ {N : Type 0} (s : OpenNode N → Bool) where
-  pub after-here : (x : OpenNode N) (xs : List (OpenNode N)) → Some x ≡ current xs → s x ≡ true → after s xs ≡ drop 1 xs
-  after-here x [] e sought = absurd (grind arith)
-  after-here x (y ∷ xs) e sought = grind arith
-
-  pub after-past : (x : OpenNode N) (xs : List (OpenNode N)) → Some x ≡ current xs → s x ≡ false → after s xs ≡ after s (drop 1 xs)
-  after-past x [] e other = absurd (grind arith)
-  after-past x (y ∷ xs) e other = grind arith
-
-  pub after-none : (xs : List (OpenNode N)) → None ≡ current xs → after s xs ≡ drop 1 xs
-  after-none [] e = refl
-  after-none (y ∷ xs) e = absurd (grind arith)
-
 -- the slots of a vector, by the level of the nearest node that is sought
 module _ (q : OpenNode ℕ → Bool) (items : List KeptNode) (level : ℕ) (at : level ≡ last_place (holds_one q) (slots_of items)) where
   abbrev pub s : Option (OpenNode ℕ) → Bool

@@ -189,6 +189,34 @@ module _ (t ns bs : List ℕ) (l : IsLinked t ns bs) (i : ℕ) where
         let least = past-own (p - 1) i (omega arith) member in
         grind (arith, common_steps, nat_tests, eqb-true, kept-member, numbered, past-own, up-found, up-within)
 
+-- Levels that change by a map, where the numbers of a list change at two indices alone, between which there are holes.
+module _ (t ns bs : List ℕ) (l : IsLinked t ns bs) (i j : ℕ) (goes : ℕ → ℕ) (ms u cs : List ℕ) (many : length ms ≡ length ns) (within : j < length ns)
+    (apart : (m : ℕ) → m ≢ i → m ≢ j → get_or ms m 0 ≡ get_or ns m 0) (holes : AreHoles i j ns) (still : (p : ℕ) → p ≤ i → goes p ≡ p)
+    (before : (k n : ℕ) → n ≤ i → last_up (numbered k) ms n ≡ last_up (numbered k) ns n)
+    (past : (k n : ℕ) → j < n → last_up (numbered k) ms n ≡ goes (last_up (numbered k) ns n))
+    (table : (k : ℕ) → get_or u k 0 ≡ goes (get_or t k 0)) (rest : (m : ℕ) → m ≢ i → m ≢ j → get_or cs m 0 ≡ goes (get_or bs m 0))
+    (upper : get_or cs i 0 ≡ last_same ms i) (lower : get_or cs j 0 ≡ last_same ms j) where
+  rest-keeps : (m : ℕ) → m < length ns → m ≢ i → m ≢ j → get_or cs m 0 ≡ last_same ms m
+  rest-keeps m h ne nf = same-from ms m (get_or cs m 0)
+      (λ e. let none : get_or bs m 0 ≡ 0 = kept-hole t ns bs l m h (sym (apart m ne nf) ∙ e) in rest m ne nf ∙ still (get_or bs m 0) (omega arith) ∙ none)
+      (λ k e. rest m ne nf ∙ number k (sym (apart m ne nf) ∙ e) (cases_lt m i) (cases_lt j m))
+    where
+      number : (k : ℕ) → get_or ns m 0 ≡ suc k → (m < i) ⊎ (i ≤ m) → (j < m) ⊎ (m ≤ j) → goes (get_or bs m 0) ≡ last_up (numbered k) ms m
+      number k e (inl above) d =
+          let is = kept-member t ns bs l m h k e in
+          still (get_or bs m 0) (omega (arith, up-within (numbered k) ns m)) ∙ is ∙ sym (before k m (omega arith))
+      number k e (inr a) (inl below) = ap goes (kept-member t ns bs l m h k e) ∙ sym (past k m below)
+      number k e (inr a) (inr b) = absurd (omega (arith, holes m (omega arith) (omega arith)))
+
+  linked-by : IsLinked u ms cs
+  linked-by = record {
+    says = λ k. table k ∙ ap goes (l.says k) ∙ sym (past k (length ns) within) ∙ ap (last_up (numbered k) ms) (sym many);
+    kept = λ m h. either Keeps i m upper (λ ne. either Keeps j m lower (λ nf. rest-keeps m (omega (arith, many)) ne nf));
+  }
+    where
+      Keeps : ℕ → Type 0
+      Keeps m = get_or cs m 0 ≡ last_same ms m
+
 -- two members that have holes alone between them, and are not of one number, change places
 module _ (t ns bs : List ℕ) (l : IsLinked t ns bs) (i j a b : ℕ) (less : i < j) (within : j < length ns)
     (first : get_or ns i 0 ≡ suc a) (second : get_or ns j 0 ≡ suc b) (differ : a ≢ b) (holes : AreHoles i j ns) (u cs : List ℕ)
@@ -220,36 +248,9 @@ module _ (t ns bs : List ℕ) (l : IsLinked t ns bs) (i j a b : ℕ) (less : i <
       ∙ sym (up-other (numbered a) after i (ne_eqb (get_or after i 0) (suc a) (λ e. differ (omega (arith, exchanged-upper i j 0 ns less within)))))
       ∙ sym (up-between (numbered a) (eqb-zero-suc a) i j ns less within holes) ∙ sym (same-member after j a (exchanged-lower i j 0 ns within ∙ first))
 
-  -- and the others
-  rest-keeps : (m : ℕ) → m < length ns → m ≢ i → m ≢ j → get_or cs m 0 ≡ last_same after m
-  rest-keeps m h ne nf = same-from after m (get_or cs m 0)
-      (λ e. let none : get_or bs m 0 ≡ 0 = kept-hole t ns bs l m h (sym apart ∙ e) in rest m ne nf ∙ unmoved (omega arith) ∙ none)
-      (λ k e. rest m ne nf ∙ number k (sym apart ∙ e) (cases_lt m i) (cases_lt j m))
-    where
-      apart : get_or after m 0 ≡ get_or ns m 0
-      apart = exchanged-apart i j 0 ns m ne nf
-
-      unmoved : get_or bs m 0 ≤ i → level_exchanged i j (get_or bs m 0) ≡ get_or bs m 0
-      unmoved low = moved-other i j (get_or bs m 0) (λ e. absurd (omega arith)) (λ e. absurd (omega arith))
-
-      number : (k : ℕ) → get_or ns m 0 ≡ suc k → (m < i) ⊎ (i ≤ m) → (j < m) ⊎ (m ≤ j) → level_exchanged i j (get_or bs m 0) ≡ last_up (numbered k) after m
-      number k e (inl above) d =
-          let is = kept-member t ns bs l m h k e in
-          unmoved (omega (arith, up-within (numbered k) ns m)) ∙ is ∙ sym (before k m (omega arith))
-      number k e (inr a) (inl below) = ap (level_exchanged i j) (kept-member t ns bs l m h k e) ∙ sym (swapped k m below)
-      number k e (inr a) (inr b) = absurd (omega (arith, holes m (omega arith) (omega arith)))
-
   pub linked-swapped : IsLinked u (exchanged i j 0 ns) cs
-  linked-swapped = record {
-    says = λ k. table k ∙ ap (level_exchanged i j) (l.says k) ∙ sym (swapped k (length ns) within) ∙ ap (last_up (numbered k) after) (sym many);
-    kept = λ m h. either Keeps i m upper-keeps (λ ne. either Keeps j m lower-keeps (λ nf. rest-keeps m (omega (arith, many)) ne nf));
-  }
-    where
-      many : length after ≡ length ns
-      many = exchanged-length i j 0 ns
-
-      Keeps : ℕ → Type 0
-      Keeps m = get_or cs m 0 ≡ last_same after m
+  linked-swapped = linked-by t ns bs l i j (level_exchanged i j) after u cs (exchanged-length i j 0 ns) within (exchanged-apart i j 0 ns) holes
+      (λ p low. moved-other i j p (λ e. absurd (omega arith)) (λ e. absurd (omega arith))) before swapped table rest upper-keeps lower-keeps
 
 -- where a number is last, once a member has left a hole
 module _ (s : ℕ → Bool) (hole : s 0 ≡ false) (i : ℕ) (ns : List ℕ) (within : i < length ns) where
@@ -274,36 +275,13 @@ module _ (t ns bs : List ℕ) (l : IsLinked t ns bs) (i a next : ℕ) (within : 
   left-past : (k n : ℕ) → i < n → level_left i (get_or bs i 0) (last_up (numbered k) ns n) ≡ last_up (numbered k) left n
   left-past k n h = grind (arith, common_steps, nat_tests, cases_eq, eqb-zero-suc, kept-member, left-other, numbered, up-at, up-left)
 
-  rest-left : (m : ℕ) → m < length ns → m ≢ i → get_or cs m 0 ≡ last_same left m
-  rest-left m h ne = same-from left m (get_or cs m 0)
-      (λ e. let none : get_or bs m 0 ≡ 0 = kept-hole t ns bs l m h (sym apart ∙ e) in level ∙ unmoved (omega arith) ∙ none)
-      (λ k e. level ∙ number k (sym apart ∙ e) (cases_lt m i))
-    where
-      apart : get_or left m 0 ≡ get_or ns m 0
-      apart = get_or-set_other ns i m 0 0 ne
-
-      level : get_or cs m 0 ≡ level_left i (get_or bs i 0) (get_or bs m 0)
-      level = list m ne ∙ left-list t bs i a next (get_or bs i 0) held m
-
-      unmoved : get_or bs m 0 ≤ i → level_left i (get_or bs i 0) (get_or bs m 0) ≡ get_or bs m 0
-      unmoved low = left-other i (get_or bs i 0) (get_or bs m 0) (λ e. absurd (omega arith))
-
-      number : (k : ℕ) → get_or ns m 0 ≡ suc k → (m < i) ⊎ (i ≤ m) → level_left i (get_or bs i 0) (get_or bs m 0) ≡ last_up (numbered k) left m
-      number k e (inl above) =
-          let is = kept-member t ns bs l m h k e in
-          unmoved (omega (arith, up-within (numbered k) ns m)) ∙ is ∙ sym (up-above (numbered k) (eqb-zero-suc k) i ns within m (omega arith))
-      number k e (inr past) = ap (level_left i (get_or bs i 0)) (kept-member t ns bs l m h k e) ∙ left-past k m (omega arith)
-
   pub linked-left : IsLinked u (set ns i 0) cs
-  linked-left = record {
-    says = λ k. table k ∙ left-table t bs i a next (get_or bs i 0) held k ∙ ap (level_left i (get_or bs i 0)) (l.says k) ∙ left-past k (length ns) within
-        ∙ ap (last_up (numbered k) left) (sym many);
-    kept = λ m h. either (λ p. get_or cs p 0 ≡ last_same left p) i m hole-keeps (λ ne. rest-left m (omega (arith, many)) ne);
-  }
+  linked-left = linked-by t ns bs l i i (level_left i (get_or bs i 0)) left u cs (length-set ns i 0) within (λ m ne nf. get_or-set_other ns i m 0 0 ne)
+      (λ m a b. absurd (omega arith)) (λ p low. left-other i (get_or bs i 0) p (λ e. absurd (omega arith)))
+      (λ k. up-above (numbered k) (eqb-zero-suc k) i ns within) (λ k n h. sym (left-past k n h))
+      (λ k. table k ∙ left-table t bs i a next (get_or bs i 0) held k)
+      (λ m ne nf. list m ne ∙ left-list t bs i a next (get_or bs i 0) held m) hole-keeps hole-keeps
     where
-      many : length left ≡ length ns
-      many = length-set ns i 0
-
       hole-keeps : get_or cs i 0 ≡ last_same left i
       hole-keeps = gone ∙ sym (same-hole left i (get_or-set_same ns i 0 0 within))
 

@@ -1,5 +1,6 @@
 -- What the items of a vector say.
 use Rattle.std.specs.Prelude.{◌≡◌, ℕ, ◌<◌, ◌⊎◌, ◌==◌, Bool, true, false, not, List, [], ◌∷◌, Option, Some, None, filter, map, reverse}
+use Rattle.std.specs.Coded.{×_prop, Unit-prop, le_prop}
 use Rattle.hopen.specs.Formatting.{EntryOf, Listed, marker, entry}
 use Rattle.hopen.specs.declared.entry.Entry.{Entry}
 use Rattle.hopen.specs.declared.entry.Slot.{Slot as Stored}
@@ -64,3 +65,9 @@ abbrev pub IsStored : Stored → Type 0
 IsStored stored.Hole = Unit {0}
 IsStored stored.Marker = Unit {0}
 IsStored (stored.Entry e) = (e.node < nowhere) × (e.name < nowhere)
+
+-- in one way
+pub IsStored-prop : (x : Stored) → IsProp (IsStored x)
+IsStored-prop stored.Hole = Unit-prop
+IsStored-prop stored.Marker = Unit-prop
+IsStored-prop (stored.Entry e) = ×_prop le_prop le_prop

@@ -1,6 +1,7 @@
 -- What is kept of the open nodes, so that no question has to search them. A vector has a slot for each of them, the current node's last; where a node
 -- has left from above others, its slot is a hole.
-use Rattle.std.specs.Prelude.{◌≡◌, ◌≢◌, ℕ, zero, suc, Bool, true, false, ◌+◌, ◌<◌, ◌^◌, ◌==◌, List, Option, Some, None, length, map, reverse, take}
+use Rattle.std.specs.Prelude.{◌≡◌, ◌≢◌, ℕ, zero, suc, Bool, true, false, ◌+◌, ◌<◌, ◌≤◌, ◌^◌, ◌==◌, List, vec_capacity, Option, Some, None, length, map, reverse, take}
+use Rattle.std.specs.Global.{Vec}
 use Rattle.std.specs.List.{All, sum_by}
 use Rattle.std.specs.Prelude.{slice_index, slice_index_or, slice_set, if◌then◌else◌}
 use Rattle.hopen.specs.Stack.{OpenNode}
@@ -179,6 +180,13 @@ pub record AreAsLong (last other : LastLevels) : Type 0 where
   pub nodes : length last.nodes.items ≡ length other.nodes.items
   pub holes : last.holes ≡ other.holes
 
+-- tables as long as others, and a vector that is no longer than another and has as much room
+pub record KeepRoom (last other : LastLevels) (items before : Vec KeptNode) : Type 0 where
+  pub names : length last.names.items ≡ length other.names.items
+  pub nodes : length last.nodes.items ≡ length other.nodes.items
+  pub len : length items.items ≤ length before.items
+  pub capacity : vec_capacity before ≤ vec_capacity items
+
 -- the tables have an entry for a node and one for its name, so their levels can be written there
 abbrev pub HasRoom : LastLevels → Open → Type 0
 HasRoom last x = (x.name < length last.names.items) × (x.node < length last.nodes.items)
@@ -197,12 +205,6 @@ pub record IsAlone (last : LastLevels) (x : KeptNode) (level : ℕ) : Type 0 whe
   pub plain : is_special (tag_of x.opened.name) ≡ false
   pub none_above : x.same_node ≡ 0
   pub none_below : slice_index last.nodes.items x.opened.node ≡ level
-
--- and a new one of its name that is open nowhere
-pub record CanGiveWay (last : LastLevels) (x : KeptNode) (level : ℕ) (new : Open) : Type 0 where
-  pub alone : IsAlone last x level
-  pub name : x.opened.name ≡ new.name
-  pub fresh : slice_index last.nodes.items new.node ≡ 0
 
 -- Two nodes with holes alone between them: the upper one is not special, and neither is open again below.
 pub record CanPass (last : LastLevels) (items : List KeptNode) (i j : ℕ) : Type 0 where

@@ -7,7 +7,6 @@ use Rattle.hopen.specs.Hashes.{entry_hash}
 use Rattle.hopen.specs.Formatting.{EntryOf, Listed, marker, entry}
 use Rattle.hopen.specs.Items.{IsStored, is_gone, item_of, nowhere}
 use Rattle.hopen.specs.declared.entry.Slot.{Slot as Stored}
-use Rattle.hopen.specs.declared.slots.Slots.{Slots}
 
 -- the number of an item by one of its entry: markers have the first, and holes the next
 abbrev pub number_by : (EntryOf ℕ → ℕ) → Listed ℕ → ℕ
@@ -31,10 +30,10 @@ abbrev pub numbers_by : (EntryOf ℕ → ℕ) → List Stored → List ℕ
 numbers_by number items = map (λ i. number_by number (item_of i)) items
 
 -- The numbers that are kept are those of the items, those of the hashes only where there are keys, and from an index on there is no hole.
-pub record AreSlotsListed (s : Slots) : Type 0 where
-  pub names : s.names ≡ numbers_by by_name s.items.items
-  pub hashes : is_some s.keys ≡ true → s.hashes ≡ numbers_by (by_hash s.keys) s.items.items
-  pub nodes : s.nodes ≡ numbers_by by_node s.items.items
-  pub stored : All IsStored s.items.items
-  pub within : s.solid ≤ length s.items.items
-  pub solid : (i : ℕ) → s.solid ≤ i → i < length s.items.items → (x : Stored) → is_gone (slice_index_or s.items.items i x) ≡ false
+pub record AreListed (name_numbers hash_numbers node_numbers : List ℕ) (keys : Option DefaultHasher) (items : List Stored) (no_hole_from : ℕ) : Type 0 where
+  pub names : name_numbers ≡ numbers_by by_name items
+  pub hashes : is_some keys ≡ true → hash_numbers ≡ numbers_by (by_hash keys) items
+  pub nodes : node_numbers ≡ numbers_by by_node items
+  pub stored : All IsStored items
+  pub within : no_hole_from ≤ length items
+  pub solid : (i : ℕ) → no_hole_from ≤ i → i < length items → (x : Stored) → is_gone (slice_index_or items i x) ≡ false

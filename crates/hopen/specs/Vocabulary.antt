@@ -7,11 +7,11 @@ pub use Rattle.hopen.specs.Formatting.{same_attribute, same_attributes, with_nod
 pub use Rattle.hopen.specs.Hashes.{distinct, entry_hash, fed_name, hash_of}
 pub use Rattle.hopen.specs.Holes.{nth_live}
 pub use Rattle.hopen.specs.ItemCoding.{coded_items}
-pub use Rattle.hopen.specs.Items.{entry_is, is_gone, item_of, listed_items, live, moved_entry, stored_entry, IsStored}
-pub use Rattle.hopen.specs.Kept.{AreAlike, AreAlikeButNames, AreAsLong, AreHoles, AreIn, CanGiveWay, CanPass, EndsOpen, HasRoom, IsAlone, IsBelow, IsHeldLevel, IsIn, IsLinked, KeepSets, KeepSetsTo, Rests, LevelsStand, LevelsTo}
+pub use Rattle.hopen.specs.Items.{entry_is, is_gone, item_of, listed_items, live, moved_entry, stored_entry, IsStored, IsStored-prop}
+pub use Rattle.hopen.specs.Kept.{AreAlike, AreAlikeButNames, AreAsLong, AreHoles, AreIn, CanPass, EndsOpen, HasRoom, IsAlone, IsBelow, IsHeldLevel, IsIn, IsLinked, KeepRoom, KeepSets, KeepSetsTo, Rests, LevelsStand, LevelsTo}
 pub use Rattle.hopen.specs.Kept.{exchanged, is_hole, kept_kind_at, kept_kind, closing, open_name, slot_names, nearest_in, nearest_up, open_node, slot_nodes, opened_by, same_name_of, same_node_of, sets_at, slots_of, stack_of}
 pub use Rattle.hopen.specs.Slots.{gap, holds_one, somes}
-pub use Rattle.hopen.specs.Listed.{by_hash, by_name, by_node, number_by, numbers_by, AreSlotsListed}
+pub use Rattle.hopen.specs.Listed.{by_hash, by_name, by_node, number_by, numbers_by, AreListed}
 pub use Rattle.hopen.specs.NameSets.{holds, is_in, set_node}
 pub use Rattle.hopen.specs.Opens.{is_sought, open_of}
 pub use Rattle.hopen.specs.Scopes.{is_named, is_of, stops_in_scope, stops_item}

@@ -1,12 +1,12 @@
 //! Entries of the list of active formatting elements, and markers (HTML Standard, `#the-list-of-active-formatting-elements`).
 
-ghost use Rattle.std.specs.Prelude.{◌≡◌, IfOk, map, nat_eq, false};
+ghost use Rattle.std.specs.Prelude.{◌≡◌, IfOk, nat_eq, false};
 ghost use Rattle.std.specs.Option.{option_map, option_map_or};
-ghost use Rattle.hopen.specs.Vocabulary.{attribute_of, entry_is, is_equal, is_gone, moved_entry, stored_entry};
+ghost use Rattle.hopen.specs.Vocabulary.{entry_is, is_equal, is_gone, moved_entry, stored_entry};
 
 use crate::attributes::are_same;
 use hnodes::{Attributes, NodeId};
-use names::{Attr, NameId};
+use names::NameId;
 use std::alloc::{AllocError, Global};
 
 /// An entry: its node, and the name and the attributes of the token that the node was made for.
@@ -39,7 +39,6 @@ impl Entry {
 }
 
 impl Slot {
-    /// The entry, if it is one.
     pub(crate) fn entry(&self) -> Option<&Entry>
         ensures { option_map (λ e. entry_is e.now) result ≡ stored_entry self.now }
     {
@@ -49,7 +48,6 @@ impl Slot {
         }
     }
 
-    /// Whether it is a hole.
     pub(crate) fn is_hole(&self) -> bool
         ensures { result ≡ is_gone self.now }
     {
@@ -57,23 +55,15 @@ impl Slot {
     }
 
     /// Whether it is an entry that was made for an equal token: with the same name, and the same attributes in whatever order.
-    pub(crate) fn is_equal(
-        &self,
-        alloc: Global,
-        name: NameId,
-        attrs: &[Attr],
-    ) -> Result<bool, AllocError>
-        // whatever the new entry's node
-        ensures { IfOk result (λ equal. equal
-            ≡ option_map_or (is_equal nat_eq (record { node = 0; name = name; attrs = map attribute_of attrs.now })) (stored_entry self.now) false) }
+    pub(crate) fn is_equal(&self, alloc: Global, new: &Entry) -> Result<bool, AllocError>
+        ensures { IfOk result (λ equal. equal ≡ option_map_or (is_equal nat_eq (entry_is new.now)) (stored_entry self.now) false) }
     {
         let Slot::Entry(entry) = self else {
             return Ok(false);
         };
-        Ok(name == entry.name && are_same(alloc, attrs, entry.attrs.as_slice())?)
+        Ok(new.name == entry.name && are_same(alloc, new.attrs.as_slice(), entry.attrs.as_slice())?)
     }
 
-    /// Sets the node of an entry; does nothing to a marker or a hole.
     pub(crate) fn set_node(&mut self, node: NodeId)
         ensures { self.new ≡ moved_entry node self.old }
     {

@@ -15,7 +15,7 @@ use hnodes::NodeId;
 use names::NameId;
 
 /// The level of the next node below an index that has the same name; 0 if there is none. It takes constant time where the item knows it.
-fn next_of_name(names: &[u32], items: &[KeptNode], index: usize) -> u32
+pub(crate) fn next_of_name(names: &[u32], items: &[KeptNode], index: usize) -> u32
     requires linked { IsLinked names.now (slot_names (map opened_by items.now)) (map same_name_of items.now) }
     requires levels { length items.now < 2 ^ 32 }
     requires within { index < length items.now }
@@ -39,7 +39,6 @@ fn next_of_name(names: &[u32], items: &[KeptNode], index: usize) -> u32
     next
 }
 
-/// Writes where the nodes of the name of an item are.
 fn link(items: &mut [KeptNode], index: usize, same_name: u32, next_name: u32)
     requires { index < length items.old }
     ensures same_names { map same_name_of items.new ≡ slice_set (map same_name_of items.old) index same_name }
@@ -54,7 +53,7 @@ fn link(items: &mut [KeptNode], index: usize, same_name: u32, next_name: u32)
 }
 
 /// Changes the level that the item at a level keeps for its name, or where that is 0, the table.
-fn keep(names: &mut [u32], items: &mut [KeptNode], name: NameId, next: u32, level: u32)
+pub(crate) fn keep(names: &mut [u32], items: &mut [KeptNode], name: NameId, next: u32, level: u32)
     requires name_in { name < length names.old }
     requires within { next ≤ length items.old }
     ensures table { (k : ℕ) → slice_index names.new k ≡ (if next == 0 && k == name then level else slice_index names.old k) }
@@ -67,21 +66,6 @@ fn keep(names: &mut [u32], items: &mut [KeptNode], name: NameId, next: u32, leve
     } else {
         names[name.index()] = level;
     }
-}
-
-/// Makes what is kept of the other nodes of a name right for when one has left.
-pub(crate) fn unlink_name(names: &mut [u32], items: &mut [KeptNode], index: usize)
-    requires linked { IsLinked names.old (slot_names (map opened_by items.old)) (map same_name_of items.old) }
-    requires levels { length items.old < 2 ^ 32 }
-    requires within { index < length items.old }
-    requires live { (x : KeptNode) → x ≡ slice_index_or items.old index x → is_hole x.kind ≡ false }
-    ensures linked { IsLinked names.new (slice_set (slot_names (map opened_by items.old)) index 0) (slice_set (map same_name_of items.new) index 0) }
-    ensures rest { AreAlikeButNames items.new items.old }
-{
-    let item = items[index];
-    let next = next_of_name(names, items, index);
-    keep(names, items, item.opened.name, next, item.same_name);
-    hint(items, item.same_name, next);
 }
 
 /// Makes what is kept of the names of a node and the next one below it right for when the two have changed places.
@@ -147,7 +131,6 @@ fn swap(last: &mut LastLevels, items: &mut [KeptNode], index: usize, below: usiz
     };
 }
 
-/// The index of the next open node below one.
 fn next_open(items: &[KeptNode], index: usize) -> usize
     requires ends { EndsOpen (map opened_by items.now) }
     requires within { index + 1 < length items.now }

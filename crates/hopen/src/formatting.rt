@@ -5,7 +5,7 @@ ghost use Rattle.std.specs.List.{list_any};
 ghost use Rattle.std.specs.Option.{is_some, option_map};
 ghost use Rattle.hnodes.specs.Nearest.{changed_at, without};
 ghost use Rattle.hopen.specs.Vocabulary.{booked, cleared, entry_at, entry_is, entry_of, find_entry, for_node, has_bookmark, is_entry, listed_items, live, marker};
-ghost use Rattle.hopen.specs.Vocabulary.{coded_items, nth_live, pushed, with_node, without_entry, AreSlotsListed, Listed};
+ghost use Rattle.hopen.specs.Vocabulary.{coded_items, nth_live, pushed, with_node, without_entry, Listed};
 
 use crate::bookmark::Bookmark;
 use crate::entry::{Entry, Slot};
@@ -34,13 +34,10 @@ impl Model for Formatting {
     ghost coded = { coded_items };
 
     ghost view = { λ f. live (listed_items f.slots.items.items) };
-
-    ghost invariant = { λ f. AreSlotsListed f.slots };
 }
 
 /// The index of the item with `back` items after it, holes not counted.
 fn slot(slots: &Slots, back: usize) -> Option<usize>
-    requires { AreSlotsListed slots.now }
     ensures { result ≡ option_map (λ up. length slots.now.items.items - 1 - up) (nth_live back (listed_items slots.now.items.items)) }
 {
     let len = slots.items.len();
@@ -63,9 +60,7 @@ fn slot(slots: &Slots, back: usize) -> Option<usize>
 
 /// Removes the holes at the end.
 fn trim(slots: &mut Slots)
-    requires { AreSlotsListed slots.old }
-    ensures listed { AreSlotsListed slots.new }
-    ensures same { live (listed_items slots.new.items.items) ≡ live (listed_items slots.old.items.items) }
+    ensures { live (listed_items slots.new.items.items) ≡ live (listed_items slots.old.items.items) }
 {
     while matches!(slots.items.last(), Some(Slot::Hole)) {
         let len = slots.items.len();
@@ -75,9 +70,7 @@ fn trim(slots: &mut Slots)
 
 /// Where the items have no room for one more, closes the holes and makes room for as many as there are.
 fn make_room(slots: &mut Slots) -> Result<(), AllocError>
-    requires { AreSlotsListed slots.old }
-    ensures listed { AreSlotsListed slots.new }
-    ensures same { live (listed_items slots.new.items.items) ≡ live (listed_items slots.old.items.items) }
+    ensures { live (listed_items slots.new.items.items) ≡ live (listed_items slots.old.items.items) }
 {
     if slots.items.len() < slots.items.capacity() {
         return Ok(());
@@ -107,10 +100,9 @@ impl Formatting {
         ensures err { OnErr result (self.new ≡ self.old) }
     {
         make_room(&mut self.slots)?;
-        let (hash, earliest) = self
-            .slots
-            .prepare(self.alloc, &self.keys, name, attrs.as_slice())?;
-        let entry = Slot::Entry(Entry { node, name, attrs });
+        let entry = Entry { node, name, attrs };
+        let (hash, earliest) = self.slots.prepare(self.alloc, self.keys, &entry)?;
+        let entry = Slot::Entry(entry);
         self.slots
             .put(entry, name_number(name), hash, node_number(node))?;
         if let Some(back) = earliest {
@@ -143,13 +135,8 @@ impl Formatting {
     pub fn len(&self) -> usize
         ensures { result ≡ length self.now }
     {
-        let mut count = 0;
-        for item in &self.slots.items {
-            if !item.is_hole() {
-                count += 1;
-            }
-        }
-        count
+        let entries = self.slots.items.iter().filter(|item| !item.is_hole());
+        entries.count()
     }
 
     /// At least as many as there are items: also the holes that removed entries left count. Takes the same time at any length.

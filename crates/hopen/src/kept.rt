@@ -2,9 +2,8 @@
 
 ghost use Rattle.std.specs.Prelude.{◌≡◌, ◌≢◌, List, true, false, ℕ, ◌+◌, ◌-◌, ◌<◌, ◌≤◌, ◌^◌, OnOk, OnErr, ◌∷◌, Some, None, length, map};
 ghost use Rattle.std.specs.Prelude.{slice_index, slice_index_or, slice_set, vec_capacity, vec_len};
-ghost use Rattle.std.specs.Option.{option_map};
 ghost use Rattle.hopen.specs.Vocabulary.{closing, is_hole, kept_kind, nearest_up, open_of, opened_by, set_node, sets_at, stack_of, tag_of};
-ghost use Rattle.hopen.specs.Vocabulary.{AreAlike, AreAsLong, AreIn, CanGiveWay, EndsOpen, HasRoom, IsAlone, IsBelow, IsIn, KeepSets, KeepSetsTo, Rests, LevelsStand, LevelsTo};
+ghost use Rattle.hopen.specs.Vocabulary.{AreAlike, AreAsLong, AreIn, EndsOpen, HasRoom, IsAlone, IsBelow, IsIn, KeepSets, KeepSetsTo, Rests, LevelsStand, LevelsTo};
 ghost use Rattle.hopen.specs.declared.kept.Kind.TheVariants as Kind;
 
 use crate::name_sets::{NameSet, SetNodes};
@@ -72,7 +71,6 @@ fn make_room(levels: &mut Vec<u32>, number: usize) -> Result<(), AllocError>
 }
 
 impl Kind {
-    /// The kind of an open node of a name.
     #[inline(always)]
     fn of(tag: Tag) -> Kind
         ensures live { is_hole result ≡ false }
@@ -85,7 +83,6 @@ impl Kind {
         }
     }
 
-    /// Whether it is a hole.
     #[inline(always)]
     pub(crate) fn is_hole(self) -> bool
         ensures { result ≡ is_hole self }
@@ -98,10 +95,7 @@ impl Kind {
     pub(crate) fn closing(self) -> u32
         ensures { result ≡ closing self }
     {
-        match self {
-            Kind::MustClose => 1,
-            Kind::Hole | Kind::MayStay => 0,
-        }
+        u32::from(matches!(self, Kind::MustClose))
     }
 }
 
@@ -120,7 +114,6 @@ impl KeptNode {
         }
     }
 
-    /// The hole that its node leaves.
     pub(crate) fn hole(self) -> Self
         ensures hole { result.kind ≡ Kind.Hole }
         ensures levels { (result.same_name ≡ 0) × (result.same_node ≡ 0) }
@@ -132,17 +125,6 @@ impl KeptNode {
             kind: Kind::Hole,
             ..self
         }
-    }
-
-    /// The node that is open here; none in a hole.
-    #[inline(always)]
-    pub(crate) fn held(&self) -> Option<Open>
-        ensures { option_map open_of result ≡ opened_by self.now }
-    {
-        if self.kind.is_hole() {
-            return None;
-        }
-        Some(self.opened)
     }
 }
 
@@ -161,7 +143,6 @@ impl LastLevels {
         self.nodes.get(node.index()).copied().unwrap_or(0)
     }
 
-    /// Makes room for a node and its name.
     #[inline(always)]
     pub(crate) fn make_room(&mut self, name: NameId, node: NodeId) -> Result<(), AllocError>
         ensures same_names { (k : ℕ) → slice_index self.new.names.items k ≡ slice_index self.old.names.items k }
@@ -366,14 +347,6 @@ pub(crate) fn is_alone(last: &LastLevels, item: &KeptNode, level: u32) -> bool
         && last.of_node(item.opened.node) == level
 }
 
-/// Whether a new node can take the place of one with nothing below looked at: it has its name, and is open nowhere.
-fn can_give_way(last: &LastLevels, item: &KeptNode, level: u32, name: NameId, node: NodeId) -> bool
-    requires { is_hole item.now.kind ≡ false }
-    ensures { (result ≡ true) → CanGiveWay last.now item.now level (record { node = node; name = name }) }
-{
-    item.opened.name == name && is_alone(last, item, level) && last.of_node(node) == 0
-}
-
 /// Puts any slot in the place of another: what is kept below it is made anew.
 #[inline(never)]
 pub(crate) fn rewrite(last: &mut LastLevels, items: &mut [KeptNode], index: usize, slot: KeptNode)
@@ -402,11 +375,11 @@ pub(crate) fn replace(last: &mut LastLevels, items: &mut [KeptNode], index: usiz
 {
     // Taken apart for the prover alone (CONTRIBUTING.md, "Traps").
     let Open { node, name } = new;
-    let old = items[index].opened.node;
+    let old = items[index].opened;
     let level = index as u32 + 1;
-    if can_give_way(last, &items[index], level, name, node) {
+    if old.name == name && is_alone(last, &items[index], level) && last.of_node(node) == 0 {
         items[index].opened = Open { node, name };
-        last.nodes[old.index()] = 0;
+        last.nodes[old.node.index()] = 0;
         last.nodes[node.index()] = level;
     } else {
         rewrite(last, items, index, KeptNode::new(Open { node, name }));

@@ -1,16 +1,14 @@
 //! Nodes that leave the stack: the current one, and those that leave from above others, which leave holes.
 
-ghost use Rattle.std.specs.Prelude.{◌≡◌, ◌≢◌, ◌-◌, ◌<◌, ◌≤◌, ◌^◌, true, false, IfSome, None, drop, length, map, reverse, slice_index_or, slice_set};
-ghost use Rattle.std.specs.Prelude.{vec_capacity, vec_len};
+ghost use Rattle.std.specs.Prelude.{◌≡◌, ◌≢◌, ◌-◌, ◌<◌, ◌^◌, true, false, IfSome, None, drop, length, map, reverse, slice_index_or, slice_set, vec_len};
 ghost use Rattle.std.specs.List.{sum_by};
 ghost use Rattle.std.specs.Option.{option_map};
-ghost use Rattle.hopen.specs.Vocabulary.{current, gap, open_of, opened_by, somes, stack_of, AreAsLong, EndsOpen, HasRoom, Rests, LevelsStand};
+ghost use Rattle.hopen.specs.Vocabulary.{current, gap, open_of, opened_by, somes, stack_of, AreAsLong, KeepRoom, EndsOpen, HasRoom, Rests, LevelsStand};
 
-use crate::exchange::unlink_name;
-use crate::kept::{KeptNode, LastLevels, append, is_alone, rewrite};
+use crate::exchange::{keep, next_of_name};
+use crate::kept::{KeptNode, LastLevels, append, hint, is_alone, rewrite};
 use crate::stack::Open;
 
-/// Whether the last slot is a hole.
 #[inline(always)]
 fn ends_in_hole(items: &[KeptNode]) -> bool
     ensures hole { (result ≡ true) → (0 < length items.now) × (slice_index_or (map opened_by items.now) (length items.now - 1) None ≡ None) }
@@ -27,9 +25,7 @@ fn trim(last: &mut LastLevels, items: &mut Vec<KeptNode>)
     requires levels { length items.old.items < 2 ^ 32 }
     ensures rests { Rests last.new items.new.items }
     ensures same { stack_of items.new.items ≡ stack_of items.old.items }
-    ensures tables { (length last.new.names.items ≡ length last.old.names.items) × (length last.new.nodes.items ≡ length last.old.nodes.items) }
-    ensures len { length items.new.items ≤ length items.old.items }
-    ensures capacity { vec_capacity items.new ≡ vec_capacity items.old }
+    ensures room { KeepRoom last.new last.old items.new items.old }
 {
     while ends_in_hole(items) {
         items.truncate(items.len() - 1);
@@ -37,7 +33,6 @@ fn trim(last: &mut LastLevels, items: &mut Vec<KeptNode>)
     }
 }
 
-/// Takes the slot of the current node away and returns that node.
 #[inline(always)]
 fn take_last(last: &mut LastLevels, items: &mut Vec<KeptNode>) -> Option<Open>
     requires { Rests last.old items.old.items }
@@ -47,9 +42,7 @@ fn take_last(last: &mut LastLevels, items: &mut Vec<KeptNode>) -> Option<Open>
     ensures rest { stack_of items.new.items ≡ drop 1 (stack_of items.old.items) }
     ensures none { (result ≡ None) → Rests last.new items.new.items }
     ensures some { IfSome result (λ x. HasRoom last.new x × (vec_len items.new < vec_len items.old)) }
-    ensures tables { AreAsLong last.new last.old }
-    ensures len { length items.new.items ≤ length items.old.items }
-    ensures capacity { vec_capacity items.new ≡ vec_capacity items.old }
+    ensures room { KeepRoom last.new last.old items.new items.old }
 {
     let item = items.pop()?;
     last.take_back(&item);
@@ -65,9 +58,7 @@ fn tidy(last: &mut LastLevels, items: &mut Vec<KeptNode>)
     requires levels { length items.old.items < 2 ^ 32 }
     ensures rests { Rests last.new items.new.items }
     ensures same { stack_of items.new.items ≡ stack_of items.old.items }
-    ensures tables { (length last.new.names.items ≡ length last.old.names.items) × (length last.new.nodes.items ≡ length last.old.nodes.items) }
-    ensures len { length items.new.items ≤ length items.old.items }
-    ensures capacity { vec_capacity items.old ≤ vec_capacity items.new }
+    ensures room { KeepRoom last.new last.old items.new items.old }
 {
     trim(last, items);
     let len = items.len();
@@ -83,7 +74,6 @@ fn tidy(last: &mut LastLevels, items: &mut Vec<KeptNode>)
     }
 }
 
-/// Closes the current node and returns it.
 pub(crate) fn pop(last: &mut LastLevels, items: &mut Vec<KeptNode>) -> Option<Open>
     requires { Rests last.old items.old.items }
     ensures rests { Rests last.new items.new.items }
@@ -108,30 +98,28 @@ fn make_hole(last: &mut LastLevels, items: &mut [KeptNode], index: usize)
     ensures opened { map opened_by items.new ≡ slice_set (map opened_by items.old) index None }
     ensures tables { AreAsLong last.new last.old }
 {
+    let item = items[index];
     if !is_alone(last, &items[index], index as u32 + 1) {
-        let item = items[index];
         rewrite(last, items, index, item.hole());
         return;
     }
-    let node = items[index].opened.node;
-    let kind = items[index].kind;
-    unlink_name(&mut last.names, items, index);
+    let Open { node, name } = item.opened;
+    let next = next_of_name(&last.names, items, index);
+    keep(&mut last.names, items, name, next, item.same_name);
+    hint(items, item.same_name, next);
     last.nodes[node.index()] = 0;
-    last.must_close -= kind.closing();
-    let item = items[index];
-    items[index] = item.hole();
+    last.must_close -= item.kind.closing();
+    let left = items[index];
+    items[index] = left.hole();
 }
 
-/// Closes the node of the slot at an index.
 pub(crate) fn remove(last: &mut LastLevels, items: &mut Vec<KeptNode>, index: usize)
     requires rests { Rests last.old items.old.items }
     requires within { index < length items.old.items }
     requires live { slice_index_or (map opened_by items.old.items) index None ≢ None }
     ensures rests { Rests last.new items.new.items }
     ensures items { stack_of items.new.items ≡ somes (reverse (slice_set (map opened_by items.old.items) index None)) }
-    ensures tables { (length last.new.names.items ≡ length last.old.names.items) × (length last.new.nodes.items ≡ length last.old.nodes.items) }
-    ensures len { length items.new.items ≤ length items.old.items }
-    ensures capacity { vec_capacity items.old ≤ vec_capacity items.new }
+    ensures room { KeepRoom last.new last.old items.new items.old }
 {
     make_hole(last, items, index);
     last.holes += 1;

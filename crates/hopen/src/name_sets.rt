@@ -15,7 +15,6 @@ use names::sets::{
 pub(crate) enum NameSet {
     /// The names that stop a search in a scope.
     Stops(Scope),
-    /// The special names.
     Special,
     /// The names that stop the search for an open li, dd or dt.
     StopsItem,
@@ -39,7 +38,6 @@ pub(crate) struct SetNodes {
     tells_mode: u32,
 }
 
-/// A new node if it is in a set, else the old one.
 fn node_if(is_new: bool, new: u32, old: u32) -> u32
     ensures { result ≡ (if is_new then new else old) }
 {
@@ -47,7 +45,6 @@ fn node_if(is_new: bool, new: u32, old: u32) -> u32
 }
 
 impl SetNodes {
-    /// No open node.
     pub(crate) fn none() -> SetNodes
         ensures { (set : NameSet) → set_node set result ≡ 0 }
     {

@@ -1,19 +1,20 @@
 //! The items of the list of active formatting elements, with the holes that entries leave: nothing moves where one is removed.
 
-ghost use Rattle.std.specs.Prelude.{◌≡◌, ◌≢◌, suc, ◌+◌, ◌-◌, ◌<◌, ◌≤◌, ◌++◌, ◌∷◌, [], IfOk, IfSome, OnOk, OnErr, IsTrue, is_some, true, false, insert};
-ghost use Rattle.std.specs.Prelude.{◌⊎◌, Some, None, length, map, nat_eq, not, remove, slice_index, slice_index_or, slice_set, filter, take, drop};
+ghost use Rattle.std.specs.Prelude.{◌≡◌, ◌≢◌, suc, ◌+◌, ◌-◌, ◌<◌, ◌≤◌, ◌^◌, ◌++◌, ◌∷◌, [], IfOk, IfSome, OnOk, OnErr, IsTrue, is_some, true, false, insert};
+ghost use Rattle.std.specs.Prelude.{◌⊎◌, Some, None, length, nat_eq, not, remove, slice_index, slice_index_or, slice_set, filter, take, drop};
+ghost use Rattle.std.proofs.Props.{props};
 ghost use Rattle.std.specs.List.{All, list_any};
 ghost use Rattle.std.specs.Option.{option_map_or};
 ghost use Rattle.hnodes.specs.IndexedList.{none};
 ghost use Rattle.hnodes.specs.Nearest.{changed_at, item_put_before};
-ghost use Rattle.hopen.specs.Vocabulary.{attribute_of, by_hash, by_name, by_node, entry_hash, for_node, is_entry, is_gone, item_of, listed_items, live, number_by, numbers_by};
-ghost use Rattle.hopen.specs.Vocabulary.{stored_entry, with_room, AreSlotsListed, IsStored};
+ghost use Rattle.hopen.specs.Vocabulary.{by_hash, by_name, by_node, entry_hash, entry_is, for_node, is_entry, is_gone, item_of, listed_items, live, number_by, numbers_by};
+ghost use Rattle.hopen.specs.Vocabulary.{stored_entry, with_room, AreListed, IsStored, IsStored-prop};
 ghost use Rattle.hopen.specs.declared.entry.Slot.TheVariants as stored;
 
-use crate::entry::Slot;
+use crate::entry::{Entry, Slot};
 use crate::hashes::find_hash;
 use hnodes::{IndexedList, NodeId, name_number};
-use names::{Attr, Keys, NameId};
+use names::{Keys, NameId};
 use std::alloc::{AllocError, Global};
 
 /// How many equal entries there may be after the last marker, by the Noah's Ark clause.
@@ -44,10 +45,10 @@ pub(crate) struct Slots {
     pub(crate) keys: Option<Keys>,
     /// From this index on there is no hole.
     pub(crate) solid: usize,
+    ghost listed: { AreListed names hashes nodes keys items.items solid } by { Prim.hlevel (props, IsStored-prop) },
 }
 
-/// Adds the numbers of the hash, where hashes are kept, and of the node of an item that comes after this many. On an error nothing
-/// changes.
+/// Adds the numbers of an item that comes after this many, that of its hash where hashes are kept. On an error nothing changes.
 #[inline(always)]
 fn push_numbers(
     hashes: &mut IndexedList,
@@ -92,7 +93,6 @@ fn last_hole(items: &[Slot], index: usize, place: usize) -> Option<usize>
     None
 }
 
-/// Moves the number at an index to where none is.
 fn move_number(numbers: &mut IndexedList, index: usize, to: usize)
     requires within { index < length numbers.old }
     requires number { slice_index numbers.old index ≢ none }
@@ -110,7 +110,6 @@ fn move_number(numbers: &mut IndexedList, index: usize, to: usize)
 impl Slots {
     pub(crate) fn new(alloc: Global) -> Self
         ensures items { result.items.items ≡ [] }
-        ensures listed { AreSlotsListed result }
     {
         Slots {
             items: Vec::new(alloc),
@@ -123,9 +122,7 @@ impl Slots {
     }
 
     /// Whether there are more entries of a name after the last marker than are compared one by one, or such with many attributes.
-    fn is_crowded(&self, name: NameId) -> bool
-        requires { AreSlotsListed self.now }
-    {
+    fn is_crowded(&self, name: NameId) -> bool {
         let marker = self.names.last(MARKER);
         let mut place = self.names.last(name_number(name));
         for _ in 0..FEW {
@@ -142,27 +139,18 @@ impl Slots {
     }
 
     /// Before an entry of a name comes: if that name has many, hashes the entries from now on. On an error nothing changes.
-    fn hash_if_crowded(
-        &mut self,
-        alloc: Global,
-        keys: &Keys,
-        name: NameId,
-    ) -> Result<(), AllocError>
-        requires listed { AreSlotsListed self.old }
-        ensures listed { AreSlotsListed self.new }
+    fn hash_if_crowded(&mut self, alloc: Global, keys: Keys, name: NameId) -> Result<(), AllocError>
         ensures items { self.new.items.items ≡ self.old.items.items }
-        ensures keys { (self.new.keys ≡ self.old.keys) ⊎ (self.new.keys ≡ Some keys.now) }
+        ensures keys { (self.new.keys ≡ self.old.keys) ⊎ (self.new.keys ≡ Some keys) }
     {
         if self.keys.is_none() && self.is_crowded(name) {
-            self.hashes = hash_items(alloc, Some(*keys), &self.items)?;
-            self.keys = Some(*keys);
+            self.hashes = hash_items(alloc, Some(keys), &self.items)?;
+            self.keys = Some(keys);
         }
         Ok(())
     }
 
-    /// Where the hash of each item is.
     fn by_hash(&self) -> &IndexedList
-        requires { AreSlotsListed self.now }
         ensures { result.now ≡ numbers_by (by_hash self.now.keys) self.now.items.items }
     {
         match self.keys {
@@ -171,28 +159,21 @@ impl Slots {
         }
     }
 
-    /// The Noah's Ark clause: how many items come after the entry that gives way to a new one, the earliest of the equal entries after the
-    /// last marker, if there are three. Equal entries have the same hash.
-    fn giving_way(
-        &self,
-        alloc: Global,
-        number: usize,
-        name: NameId,
-        attrs: &[Attr],
-    ) -> Result<Option<usize>, AllocError>
-        requires listed { AreSlotsListed self.now }
-        requires number { number ≡ suc (suc (entry_hash self.now.keys (record { node = 0; name = name; attrs = map attribute_of attrs.now }))) }
+    /// The Noah's Ark clause: how many items come after the earliest equal entry, if it gives way to a new one. Equal entries have the same hash.
+    fn earliest(&self, alloc: Global, hash: usize, new: &Entry) -> Result<Option<usize>, AllocError>
+        requires named { new.now.name < 2 ^ 32 }
+        requires hash { hash ≡ suc (suc (entry_hash self.now.keys (entry_is new.now))) }
         ensures within { IfOk result (λ earliest. IfSome earliest (λ back. back < length self.now.items.items)) }
         ensures room { IfOk result (λ earliest. option_map_or (remove (listed_items self.now.items.items)) earliest (listed_items self.now.items.items)
-            ≡ with_room nat_eq (record { node = 0; name = name; attrs = map attribute_of attrs.now }) (listed_items self.now.items.items)) }
+            ≡ with_room nat_eq (entry_is new.now) (listed_items self.now.items.items)) }
     {
         let hashes = self.by_hash();
         let marker = hashes.last(MARKER);
-        let mut place = hashes.last(number);
+        let mut place = hashes.last(hash);
         let mut equal = 0;
         let mut earliest = None;
         while place > marker {
-            if self.items[place - 1].is_equal(alloc, name, attrs)? {
+            if self.items[place - 1].is_equal(alloc, new)? {
                 equal += 1;
                 earliest = Some(self.items.len() - place);
             }
@@ -201,31 +182,28 @@ impl Slots {
         Ok(if equal < MOST_EQUAL { None } else { earliest })
     }
 
-    /// Before an entry comes: the number of its hash, and how many items come after the entry that gives way to it. If its name has many
-    /// entries, the entries are hashed from now on. On an error nothing changes.
+    /// Before an entry comes: the number of its hash, and how many items come after the entry that gives way to it. On an error nothing changes.
     #[inline(always)]
     pub(crate) fn prepare(
         &mut self,
         alloc: Global,
-        keys: &Keys,
-        name: NameId,
-        attrs: &[Attr],
+        keys: Keys,
+        new: &Entry,
     ) -> Result<(usize, Option<usize>), AllocError>
-        requires listed { AreSlotsListed self.old }
-        ensures listed { AreSlotsListed self.new }
+        requires { new.now.name < 2 ^ 32 }
         ensures items { self.new.items.items ≡ self.old.items.items }
-        ensures hash { IfOk result (λ p. p.0 ≡ suc (suc (entry_hash self.new.keys (record { node = 0; name = name; attrs = map attribute_of attrs.now })))) }
+        ensures hash { IfOk result (λ p. p.0 ≡ suc (suc (entry_hash self.new.keys (entry_is new.now)))) }
         ensures within { IfOk result (λ p. IfSome p.1 (λ back. back < length self.new.items.items)) }
         ensures room { IfOk result (λ p. option_map_or (remove (listed_items self.new.items.items)) p.1 (listed_items self.new.items.items)
-            ≡ with_room nat_eq (record { node = 0; name = name; attrs = map attribute_of attrs.now }) (listed_items self.new.items.items)) }
+            ≡ with_room nat_eq (entry_is new.now) (listed_items self.new.items.items)) }
     {
-        let place = self.names.last(name_number(name));
+        let place = self.names.last(name_number(new.name));
         if place <= self.names.last(MARKER) {
-            return Ok((find_hash(alloc, self.keys, name, attrs)?, None));
+            return Ok((find_hash(alloc, self.keys, new)?, None));
         }
-        self.hash_if_crowded(alloc, keys, name)?;
-        let hash = find_hash(alloc, self.keys, name, attrs)?;
-        Ok((hash, self.giving_way(alloc, hash, name, attrs)?))
+        self.hash_if_crowded(alloc, keys, new.name)?;
+        let hash = find_hash(alloc, self.keys, new)?;
+        Ok((hash, self.earliest(alloc, hash, new)?))
     }
 
     /// Adds an item at the end, with the numbers of its name, its hash and its node. On an error no item changes.
@@ -237,13 +215,11 @@ impl Slots {
         hash: usize,
         node: usize,
     ) -> Result<(), AllocError>
-        requires listed { AreSlotsListed self.old }
         requires stored { IsStored item }
         requires there { is_gone item ≡ false }
         requires name { name ≡ number_by by_name (item_of item) }
         requires hash { hash ≡ number_by (by_hash self.old.keys) (item_of item) }
         requires node { node ≡ number_by by_node (item_of item) }
-        ensures listed { AreSlotsListed self.new }
         ensures ok { OnOk result (self.new.items.items ≡ self.old.items.items ++ item ∷ []) }
         ensures err { OnErr result (self.new.items.items ≡ self.old.items.items) }
     {
@@ -263,12 +239,9 @@ impl Slots {
         Ok(())
     }
 
-    /// Keeps the first `len` items.
     #[inline(always)]
     pub(crate) fn truncate(&mut self, len: usize)
-        requires listed { AreSlotsListed self.old }
         requires within { len ≤ length self.old.items.items }
-        ensures listed { AreSlotsListed self.new }
         ensures items { self.new.items.items ≡ take len self.old.items.items }
     {
         self.names.truncate(len);
@@ -280,11 +253,8 @@ impl Slots {
         }
     }
 
-    /// Leaves a hole at an index.
     pub(crate) fn hide(&mut self, index: usize)
-        requires listed { AreSlotsListed self.old }
         requires within { index < length self.old.items.items }
-        ensures listed { AreSlotsListed self.new }
         ensures items { self.new.items.items ≡ slice_set self.old.items.items index stored.Hole }
     {
         self.names.clear(index);
@@ -299,10 +269,8 @@ impl Slots {
     /// Sets the node of the entry at an index.
     #[inline(always)]
     pub(crate) fn renew(&mut self, index: usize, node: NodeId)
-        requires listed { AreSlotsListed self.old }
         requires within { index < length self.old.items.items }
         requires entry { is_some (stored_entry (slice_index_or self.old.items.items index stored.Hole)) ≡ true }
-        ensures listed { AreSlotsListed self.new }
         ensures items { listed_items self.new.items.items ≡ changed_at (length self.old.items.items - 1 - index) (for_node node)
             (listed_items self.old.items.items) }
     {
@@ -311,11 +279,8 @@ impl Slots {
         self.items[index].set_node(node);
     }
 
-    /// Exchanges the items at an index and at the next one.
     fn swap(&mut self, index: usize)
-        requires listed { AreSlotsListed self.old }
         requires within { index + 1 < length self.old.items.items }
-        ensures listed { AreSlotsListed self.new }
         ensures items { self.new.items.items
             ≡ slice_set (slice_set self.old.items.items index (slice_index_or self.old.items.items (index + 1) stored.Hole))
             (index + 1) (slice_index_or self.old.items.items index stored.Hole) }
@@ -331,10 +296,8 @@ impl Slots {
 
     /// Moves an item to another index, past one item at a time.
     fn carry(&mut self, from: usize, to: usize)
-        requires listed { AreSlotsListed self.old }
         requires from { from < length self.old.items.items }
         requires to { to < length self.old.items.items }
-        ensures listed { AreSlotsListed self.new }
         ensures items { self.new.items.items ≡ insert (remove self.old.items.items from) to (slice_index_or self.old.items.items from stored.Hole) }
     {
         let mut index = from;
@@ -351,12 +314,10 @@ impl Slots {
 
     /// Moves the entry at an index to where a hole is, and leaves one.
     fn jump(&mut self, index: usize, hole: usize)
-        requires listed { AreSlotsListed self.old }
         requires within { index < length self.old.items.items }
         requires entry { is_some (stored_entry (slice_index_or self.old.items.items index stored.Hole)) ≡ true }
         requires hole_within { hole < length self.old.items.items }
         requires hole { is_gone (slice_index_or self.old.items.items hole stored.Hole) ≡ true }
-        ensures listed { AreSlotsListed self.new }
         ensures items { self.new.items.items
             ≡ slice_set (slice_set self.old.items.items index (slice_index_or self.old.items.items hole stored.Hole))
             hole (slice_index_or self.old.items.items index stored.Hole) }
@@ -372,10 +333,8 @@ impl Slots {
 
     /// Moves the entry at an index to the last hole before the entry of a node, if that hole comes after it. Returns where it then is.
     fn approach(&mut self, index: usize, mark: NodeId) -> usize
-        requires listed { AreSlotsListed self.old }
         requires within { index < length self.old.items.items }
         requires entry { is_some (stored_entry (slice_index_or self.old.items.items index stored.Hole)) ≡ true }
-        ensures listed { AreSlotsListed self.new }
         ensures within { result < length self.new.items.items }
         ensures entry { slice_index_or self.new.items.items result stored.Hole ≡ slice_index_or self.old.items.items index stored.Hole }
         ensures rest { live (listed_items (remove self.new.items.items result)) ≡ live (listed_items (remove self.old.items.items index)) }
@@ -393,11 +352,9 @@ impl Slots {
 
     /// Sets the node of the entry at an index, and moves it right after the entry of another node: where that comes later, past no hole.
     pub(crate) fn move_after(&mut self, index: usize, node: NodeId, mark: NodeId)
-        requires listed { AreSlotsListed self.old }
         requires within { index < length self.old.items.items }
         requires entry { is_some (stored_entry (slice_index_or self.old.items.items index stored.Hole)) ≡ true }
         requires mark { IsTrue (list_any (is_entry mark) (listed_items (remove self.old.items.items index))) }
-        ensures listed { AreSlotsListed self.new }
         ensures items { live (listed_items self.new.items.items)
             ≡ live (item_put_before (is_entry mark) (for_node node (item_of (slice_index_or self.old.items.items index stored.Hole)))
             (listed_items (remove self.old.items.items index))) }
@@ -411,11 +368,8 @@ impl Slots {
         self.carry(near, to);
     }
 
-    /// Takes the holes from an index on out.
     pub(crate) fn close(&mut self, from: usize)
-        requires listed { AreSlotsListed self.old }
         requires within { from ≤ length self.old.items.items }
-        ensures listed { AreSlotsListed self.new }
         ensures items { self.new.items.items ≡ take from self.old.items.items ++ filter (λ i. not (is_gone i)) (drop from self.old.items.items) }
     {
         self.names.compact(from);
@@ -428,7 +382,6 @@ impl Slots {
     }
 }
 
-/// The numbers of the hashes of items.
 #[inline(never)]
 fn hash_items(alloc: Global, keys: Option<Keys>, items: &[Slot]) -> Result<IndexedList, AllocError>
     requires { All IsStored items.now }
@@ -437,9 +390,7 @@ fn hash_items(alloc: Global, keys: Option<Keys>, items: &[Slot]) -> Result<Index
     let mut hashes = IndexedList::new(alloc);
     for index in 0..items.len() {
         match &items[index] {
-            Slot::Entry(entry) => {
-                hashes.push(find_hash(alloc, keys, entry.name, entry.attrs.as_slice())?)?;
-            }
+            Slot::Entry(entry) => hashes.push(find_hash(alloc, keys, entry)?)?,
             Slot::Marker => hashes.push(MARKER)?,
             Slot::Hole => {
                 hashes.push(MARKER)?;

@@ -13,7 +13,6 @@ use crate::stack::Open;
 use hnodes::NodeId;
 use names::NameId;
 
-/// What is sought among the open nodes.
 #[derive(Clone, Copy)]
 pub(crate) enum Sought {
     Node(NodeId),
@@ -22,7 +21,6 @@ pub(crate) enum Sought {
 }
 
 impl Sought {
-    /// Whether a node is sought.
     #[inline(always)]
     pub(crate) fn is(self, node: Open) -> bool
         ensures { result ≡ is_sought self (open_of node) }
@@ -35,32 +33,18 @@ impl Sought {
     }
 }
 
-/// The first special node from a slot on downwards.
 pub(crate) fn first_special(items: &[KeptNode]) -> Option<Open>
     ensures { option_map open_of result ≡ find (λ x. is_special (tag_of x.name)) (somes (map opened_by items.now)) }
 {
-    for item in items {
-        if let Some(node) = item.held() {
-            if node.name.tag().is_special() {
-                return Some(node);
-            }
-        }
-    }
-    None
+    let special = items.iter().find(|item| !item.kind.is_hole()
+        && item.opened.name.tag().is_special())?;
+    Some(special.opened)
 }
 
-/// The nearest node above a slot.
 pub(crate) fn last_open(items: &[KeptNode]) -> Option<Open>
     ensures { option_map open_of result ≡ current (stack_of items.now) }
 {
-    let mut index = items.len();
-    while index > 0 {
-        index -= 1;
-        if let Some(node) = items[index].held() {
-            return Some(node);
-        }
-    }
-    None
+    Some(items.iter().rev().find(|item| !item.kind.is_hole())?.opened)
 }
 
 /// The level of the nearest node whose name is in a set, of those down to a level, by a look at each.
@@ -98,7 +82,6 @@ pub(crate) fn set_level(last: &LastLevels, items: &[KeptNode], set: NameSet) -> 
     level
 }
 
-/// The level of the nearest node that is sought; 0 if none is open.
 #[inline(always)]
 pub(crate) fn level_of(last: &LastLevels, items: &[KeptNode], sought: Sought) -> u32
     requires stands { LevelsStand last.now items.now }

@@ -233,7 +233,8 @@ impl OpenStack {
     pub fn from_top(&self, down: usize) -> Option<Open>
         ensures { option_map open_of result ≡ slice_get (reverse self.now.stack) down }
     {
-        self.items.iter().filter_map(|item| item.held()).nth(down)
+        let mut open = self.items.iter().filter(|item| !item.kind.is_hole());
+        Some(open.nth(down)?.opened)
     }
 
     /// The nearest open node of a name.

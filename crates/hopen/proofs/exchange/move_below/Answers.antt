@@ -89,7 +89,7 @@ returns-clause-rests c =
         stack-holes left,
         stack-holes more,
       );
-      levels = omega (arith, c.requires.levels, c.remove.ensures.len, many);
+      levels = omega (arith, c.requires.levels, c.remove.ensures.room.len, many);
     })
 
 pub returns-clause-items : goal.returns-clause-items

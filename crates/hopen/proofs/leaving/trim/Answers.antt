@@ -21,10 +21,12 @@ loop-items-preserved c =
         c.loop-items.invariant.holes,
       );
       same = same ∙ c.loop-items.invariant.same;
-      names = c.loop-items.invariant.names;
-      nodes = c.loop-items.invariant.nodes;
-      len = omega (arith, ap length left, many, c.loop-items.invariant.len);
-      capacity = c.truncate.ensures.capacity ∙ c.loop-items.invariant.capacity;
+      room = record {
+        names = c.loop-items.invariant.room.names;
+        nodes = c.loop-items.invariant.room.nodes;
+        len = omega (arith, ap length left, many, c.loop-items.invariant.room.len);
+        capacity = omega (arith, c.truncate.ensures.capacity, c.loop-items.invariant.room.capacity);
+      };
     }
 
 pub returns-clause-rests : goal.returns-clause-rests

@@ -8,26 +8,21 @@ use Rattle.hopen.proofs.formatting.Formatting.entry_of.Goals as goal
 pub returns-then-place-eq0 : goal.returns-then-place-eq0
 returns-then-place-eq0 c =
     let items = c.self.inside.slots.items.items in
-    let place = placed c.args.node c.node_number.result c.last-place.result c.self.inside.slots c.self.invariant c.node_number.ensures c.last-place.ensures in
-    let slots = slots-are items c.self.invariant.stored in
+    let place = placed c.self.inside.slots c.node_number.ensures c.last-place.ensures in
+    let slots = slots-are items c.self.inside.slots.listed.stored in
     let none = node-none c.args.node (omega arith) (listed_items items) slots (sym place ∙ c.if-place-eq0.true) in
     sym (ap (entry_of c.args.node) (sym c.self.view_is) ∙ entry_of-live c.args.node (listed_items items) slots (omega arith)
     ∙ entry_of-is c.args.node (listed_items items)
     ∙ ap (option_and_then as_entry) ((no_words (is_entry c.args.node) (listed_items items) (no-position (is_entry c.args.node) (listed_items items) none)).find_is))
 
 pub index-requires : goal.index-requires
-index-requires c = omega (
-  arith,
-  c.if-place-eq0.false,
-  placed-within c.args.node c.node_number.result c.last-place.result c.self.inside.slots
-      c.self.invariant c.node_number.ensures c.last-place.ensures,
-)
+index-requires c = omega (arith, c.if-place-eq0.false, placed-within c.self.inside.slots c.node_number.ensures c.last-place.ensures)
 
 pub returns : goal.returns
 returns c =
     let items = c.self.inside.slots.items.items in
-    let place = placed c.args.node c.node_number.result c.last-place.result c.self.inside.slots c.self.invariant c.node_number.ensures c.last-place.ensures in
-    let slots = slots-are items c.self.invariant.stored in
+    let place = placed c.self.inside.slots c.node_number.ensures c.last-place.ensures in
+    let slots = slots-are items c.self.inside.slots.listed.stored in
     let some : 0 < c.last-place.result = omega (arith, c.if-place-eq0.false) in
     let x = c.index.result.now in
     let back = length (listed_items items) - node_place c.args.node (listed_items items) in

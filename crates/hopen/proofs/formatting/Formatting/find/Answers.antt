@@ -9,7 +9,7 @@ use Rattle.hopen.proofs.formatting.Formatting.find.Goals as goal
 pub returns-then-place-last : goal.returns-then-place-last
 returns-then-place-last c =
     let items = c.self.inside.slots.items.items in
-    let numbers = ap reverse c.self.invariant.names ∙ numbers-back by_name items in
+    let numbers = ap reverse c.self.inside.slots.listed.names ∙ numbers-back by_name items in
     let place : c.last-place.result ≡ name_place c.args.name (listed_items items) =
     c.last-place.ensures ∙ last-is c.name_number.result c.self.inside.slots.names ∙ (λ i. last_of (c.name_number.ensures i) (numbers i)) in
     let marker : c.last.result ≡ marker_place (listed_items items) = c.last.ensures ∙ last-is 0 c.self.inside.slots.names ∙ ap (last_of 0) numbers in
@@ -19,7 +19,7 @@ returns-then-place-last c =
 pub index-requires : goal.index-requires
 index-requires c =
     let items = c.self.inside.slots.items.items in
-    let numbers = ap reverse c.self.invariant.names ∙ numbers-back by_name items in
+    let numbers = ap reverse c.self.inside.slots.listed.names ∙ numbers-back by_name items in
     let place : c.last-place.result ≡ name_place c.args.name (listed_items items) =
     c.last-place.ensures ∙ last-is c.name_number.result c.self.inside.slots.names ∙ (λ i. last_of (c.name_number.ensures i) (numbers i)) in
     omega (arith, place-le by_name (suc (suc c.args.name)) (listed_items items), length-items_of items)
@@ -27,7 +27,7 @@ index-requires c =
 pub returns : goal.returns
 returns c =
     let items = c.self.inside.slots.items.items in
-    let numbers = ap reverse c.self.invariant.names ∙ numbers-back by_name items in
+    let numbers = ap reverse c.self.inside.slots.listed.names ∙ numbers-back by_name items in
     let place : c.last-place.result ≡ name_place c.args.name (listed_items items) =
     c.last-place.ensures ∙ last-is c.name_number.result c.self.inside.slots.names ∙ (λ i. last_of (c.name_number.ensures i) (numbers i)) in
     let marker : c.last.result ≡ marker_place (listed_items items) = c.last.ensures ∙ last-is 0 c.self.inside.slots.names ∙ ap (last_of 0) numbers in

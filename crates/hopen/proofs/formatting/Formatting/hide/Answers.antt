@@ -8,37 +8,27 @@ use Rattle.hopen.proofs.LiveEdits.{hide-live, slots-without, without1-live}
 use Rattle.hopen.proofs.formatting.Formatting.hide.Goals as goal
 use Rattle.hopen.proofs.formatting.Formatting.hide.Goals.{then-place-len, else-place-len}
 
-pub returns-then-place-eq0-clause-more : goal.returns-then-place-eq0-clause-more
-returns-then-place-eq0-clause-more c =
-    let items = c.self.inside.slots.items.items in
-    let place = placed c.args.node c.node_number.result c.last-place.result c.self.inside.slots c.self.invariant c.node_number.ensures c.last-place.ensures in
-    let slots = slots-are items c.self.invariant.stored in
-    sym (ap (list_any (is_entry c.args.node)) (sym c.self.view_is) ∙ any-live c.args.node (listed_items items) slots (omega arith)
-    ∙ node-none c.args.node (omega arith) (listed_items items) slots (omega arith))
+pub returns-then-place-eq0 : goal.returns-then-place-eq0
+returns-then-place-eq0 c =
+    let view = listed_items c.self.inside.slots.items.items in
+    let place = placed c.self.inside.slots c.node_number.ensures c.last-place.ensures in
+    let slots = slots-are c.self.inside.slots.items.items c.self.inside.slots.listed.stored in
+    let none = node-none c.args.node (omega arith) view slots (omega arith) in
+    record {
+      entry = sym c.self.view_is ∙ ap live (sym (no_words (is_entry c.args.node) view (no-position (is_entry c.args.node) view none)).without_is)
+          ∙ sym (without1-live c.args.node view slots (omega arith)) ∙ ap (without (is_entry c.args.node)) c.self.view_is;
+      more = sym (ap (list_any (is_entry c.args.node)) (sym c.self.view_is) ∙ any-live c.args.node view slots (omega arith) ∙ none);
+    }
 
-pub returns-then-place-eq0-clause-entry : goal.returns-then-place-eq0-clause-entry
-returns-then-place-eq0-clause-entry c =
-    let items = c.self.inside.slots.items.items in
-    let place = placed c.args.node c.node_number.result c.last-place.result c.self.inside.slots c.self.invariant c.node_number.ensures c.last-place.ensures in
-    let slots = slots-are items c.self.invariant.stored in
-    let none = no-position (is_entry c.args.node) (listed_items items) (node-none c.args.node (omega arith) (listed_items items) slots (omega arith)) in
-    sym c.self.view_is ∙ ap live (sym (no_words (is_entry c.args.node) (listed_items items) none).without_is)
-    ∙ sym (without1-live c.args.node (listed_items items) slots (omega arith)) ∙ ap (without (is_entry c.args.node)) c.self.view_is
-
-pub truncate-requires-clause-within : goal.truncate-requires-clause-within
-truncate-requires-clause-within c = omega (
-  arith,
-  placed-within c.args.node c.node_number.result c.last-place.result
-      c.self.inside.slots c.self.invariant c.node_number.ensures c.last-place.ensures,
-)
+pub truncate-requires : goal.truncate-requires
+truncate-requires c = omega (arith, placed-within c.self.inside.slots c.node_number.ensures c.last-place.ensures)
 
 pub before-more-requires-clause-within : goal.before-more-requires-clause-within
 before-more-requires-clause-within c = grind (arith, common_steps, up-within)
 
 pub before-more-requires-clause-number : goal.before-more-requires-clause-number
 before-more-requires-clause-number c =
-    let there = number-placed c.args.node c.node_number.result c.last-place.result 0 (omega arith) c.self.inside.slots c.self.invariant
-    c.node_number.ensures c.last-place.ensures (omega (arith, c.if-place-eq0.false)) in
+    let there = number-placed c.args.node c.node_number.result c.last-place.result 0 (omega arith) c.self.inside.slots c.node_number.ensures c.last-place.ensures (omega (arith, c.if-place-eq0.false)) in
     λ is. omega (arith, there, is)
 
 -- where the last entry is, and what is left
@@ -65,10 +55,10 @@ module _ (c : goal.After-trim) where
   some = omega (arith, c.if-place-eq0.false)
 
   place : c.last-place.result ≡ node_place c.args.node view
-  place = placed c.args.node c.node_number.result c.last-place.result c.self.inside.slots c.self.invariant c.node_number.ensures c.last-place.ensures
+  place = placed c.self.inside.slots c.node_number.ensures c.last-place.ensures
 
   slots : AreSlots view
-  slots = slots-are items c.self.invariant.stored
+  slots = slots-are items c.self.inside.slots.listed.stored
 
   at : i + suc up ≡ length items
   at = omega (arith, some, place, place-le by_node (suc (suc c.args.node)) view, length-items_of items)
@@ -93,12 +83,12 @@ module _ (c : goal.After-trim) where
       ]
 
 pub returns-clause-entry : goal.returns-clause-entry
-returns-clause-entry c = c.trim.ensures.same ∙ gone c ∙ ap live (sym (words (sought c) (view c) (up c) (first c)).without_is) ∙ without-is c
+returns-clause-entry c = c.trim.ensures ∙ gone c ∙ ap live (sym (words (sought c) (view c) (up c) (first c)).without_is) ∙ without-is c
 
 pub returns-clause-more : goal.returns-clause-more
 returns-clause-more c =
     before-any c.args.node c.node_number.result c.last-place.result c.before-more.result
-    (low c) c.self.inside.slots c.self.invariant c.node_number.ensures c.last-place.ensures (some c) c.before-more.ensures
+    (low c) c.self.inside.slots c.node_number.ensures c.last-place.ensures (some c) c.before-more.ensures
     ∙ ap (list_any (sought c)) (sym (drop_nearest item_of (items c) (i c) (suc (up c)) (at c)) ∙ sym (words (sought c) (view c) (up c) (first c)).after_is)
     ∙ sym (any-without (sought c) (view c)) ∙ sym (any-live c.args.node (without (sought c) (view c)) (slots-without (sought c) (view c) (slots c)) (low c))
     ∙ ap (list_any (sought c)) (without-is c ∙ sym (returns-clause-entry c))

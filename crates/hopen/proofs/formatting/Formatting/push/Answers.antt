@@ -1,5 +1,5 @@
 use Rattle.hopen.proofs.Holes.{unless}
-use Rattle.hopen.proofs.Names.{◌≡◌, ℕ, suc, ◌+◌, ◌-◌, ◌∷◌, None, Some, length, refl, ◌∙◌, ap, nat_eq, arith, EntryOf, entry, pushed, hole, item_of, listed_items, live, changed_at, set_nearest, List, Attribute, entry_hash}
+use Rattle.hopen.proofs.Names.{◌≡◌, ℕ, suc, ◌+◌, ◌-◌, ◌∷◌, None, Some, length, refl, ◌∙◌, ap, nat_eq, arith, EntryOf, entry, pushed, hole, item_of, listed_items, live, changed_at, set_nearest, entry_hash}
 use Rattle.hopen.specs.declared.entry.Slot.TheVariants as stored
 use Rattle.hopen.proofs.ItemLists.{items_of_last, length-items_of}
 use Rattle.hopen.proofs.Pushed.{pushed-live}
@@ -10,7 +10,7 @@ returns-in-Some-clause-ok c =
     let old = c.prepare.new.self.items.items in
     let items = c.put.new.self.items.items in
     let new : EntryOf ℕ = record { node = c.args.node; name = c.args.name; attrs = c.args.attrs } in
-    let room = rw (c.as_slice.ensures, c.in-Some.is) at c.in_ok-hash.ensures.room in
+    let room = rw c.in-Some.is at c.in_ok-hash.ensures.room in
     let within = rw c.in-Some.is at c.in_ok-hash.ensures.within in
     let put : listed_items items ≡ entry new ∷ listed_items old =
     items_of_last items old (stored.Entry (record { node = c.args.node; name = c.args.name; attrs = c.args.attrs })) c.in_ok-put.ensures.ok
@@ -21,30 +21,21 @@ returns-in-Some-clause-ok c =
     ap (λ xs. live (listed_items xs)) c.hide.ensures.items ∙ ap live (set_nearest item_of (λ _. hole) items (c.len.result - 2 - c.in-Some.back)
     (suc c.in-Some.back) stored.Hole stored.Hole at refl)
     ∙ ap (λ xs. live (changed_at (suc c.in-Some.back) (λ _. hole) xs)) put ∙ pushed-live new (omega arith) (listed_items old) (Some c.in-Some.back) room
-    ∙ ap (pushed nat_eq new) (ap (λ xs. live (listed_items xs)) c.prepare.ensures.items ∙ c.make_room.ensures.same ∙ c.self.view_is)
+    ∙ ap (pushed nat_eq new) (ap (λ xs. live (listed_items xs)) c.prepare.ensures.items ∙ c.make_room.ensures ∙ c.self.view_is)
 
 pub returns-in_default-clause-ok : goal.returns-in_default-clause-ok
 returns-in_default-clause-ok c =
     let old = c.prepare.new.self.items.items in
     let items = c.put.new.self.items.items in
     let new : EntryOf ℕ = record { node = c.args.node; name = c.args.name; attrs = c.args.attrs } in
-    let room = rw (c.as_slice.ensures, c.in_default.is) at c.in_ok-hash.ensures.room in
+    let room = rw c.in_default.is at c.in_ok-hash.ensures.room in
     let put : listed_items items ≡ entry new ∷ listed_items old =
     items_of_last items old (stored.Entry (record { node = c.args.node; name = c.args.name; attrs = c.args.attrs })) c.in_ok-put.ensures.ok
     in
     ap live put ∙ pushed-live new (omega arith) (listed_items old) None room ∙ ap (pushed nat_eq new)
-    (ap (λ xs. live (listed_items xs)) c.prepare.ensures.items ∙ c.make_room.ensures.same ∙ c.self.view_is)
-
-pub put-requires-clause-stored : goal.put-requires-clause-stored
-put-requires-clause-stored c = (omega arith, omega arith)
-
-pub put-requires-clause-name : goal.put-requires-clause-name
-put-requires-clause-name c = c.name_number.ensures ∙ unless c.args.name c.args.name (omega arith)
+    (ap (λ xs. live (listed_items xs)) c.prepare.ensures.items ∙ c.make_room.ensures ∙ c.self.view_is)
 
 pub put-requires-clause-hash : goal.put-requires-clause-hash
 put-requires-clause-hash c =
-    let hash = λ (xs : List (Attribute ℕ)). entry_hash c.prepare.new.self.keys (record { node = 0; name = c.args.name; attrs = xs }) in
-    c.in_ok-hash.ensures.hash ∙ ap (λ xs. suc (suc (hash xs))) c.as_slice.ensures ∙ unless c.args.name (hash c.args.attrs) (omega arith)
-
-pub put-requires-clause-node : goal.put-requires-clause-node
-put-requires-clause-node c = c.node_number.ensures ∙ unless c.args.name c.args.node (omega arith)
+    let new : EntryOf ℕ = record { node = c.args.node; name = c.args.name; attrs = c.args.attrs } in
+    c.in_ok-hash.ensures.hash ∙ unless c.args.name (entry_hash c.prepare.new.self.keys new) (omega arith)

@@ -5,8 +5,7 @@ use Rattle.hopen.proofs.slots.Slots.approach.Goals as goal
 
 pub last_hole-requires-clause-place : goal.last_hole-requires-clause-place
 last_hole-requires-clause-place c =
-    let within = placed-within c.args.mark c.node_number.result c.last-place.result c.args.self.now c.requires.listed c.node_number.ensures
-    c.last-place.ensures in
+    let within = placed-within c.args.self.now c.node_number.ensures c.last-place.ensures in
     omega (arith, within, ap length c.deref.ensures.value)
 
 pub returns-clause-rest : goal.returns-clause-rest

@@ -1,4 +1,4 @@
-use Rattle.hopen.proofs.Names.{◌≡◌, ◌+◌, ◌-◌, ◌<◌, length, get_or, insert, remove, AreSlotsListed}
+use Rattle.hopen.proofs.Names.{◌≡◌, ◌+◌, ◌-◌, ◌<◌, length, get_or, insert, remove}
 use Rattle.hopen.specs.declared.entry.Slot.TheVariants as stored
 use Rattle.hopen.proofs.slots.Slots.carry.Given as goal
 
@@ -6,7 +6,6 @@ use Rattle.hopen.proofs.slots.Slots.carry.Given as goal
 abbrev pub invariant-loop-index : goal.invariant-loop-index
 invariant-loop-index l =
     record {
-      listed : AreSlotsListed l.self;
       within : l.index < length l.fn.self.items.items;
       moved : l.self.items.items ≡ insert (remove l.fn.self.items.items l.fn.from) l.index (get_or l.fn.self.items.items l.fn.from stored.Hole);
     }

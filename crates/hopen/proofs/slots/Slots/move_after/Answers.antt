@@ -24,7 +24,7 @@ module _ (c : After-set_node) where
   placed : c.if-place-near.to ≡ last_place (λ x. is_entry c.args.mark (item_of x)) (reverse (remove items i))
   placed =
       let low : c.args.mark < nowhere = omega arith in
-      let listed = c.approach-near.ensures.listed in
+      let listed = c.approach-near.new.self.listed in
       let place : IsPlaceWithout (λ x. is_entry c.args.mark (item_of x)) items i c.last-place.result =
       mark-place c.args.mark low items c.approach-near.new.self.nodes i c.last-place.result c.approach-near.ensures.within listed.stored listed.nodes
       (c.last-place.ensures ∙ ap (λ n. last_up (λ k. k == n) c.clear.new.self (length c.clear.new.self)) c.node_number.ensures
@@ -34,13 +34,15 @@ module _ (c : After-set_node) where
         | else-place-near w ↦ w.to-is ∙ place.above w.if-place-near.false
       ]
 
-pub carry-requires-clause-listed : goal.carry-requires-clause-listed
-carry-requires-clause-listed c =
-    let s = (goal.at.carry-requires-clause-listed c).After-set_node in
+pub invariant_of-self : goal.invariant_of-self
+invariant_of-self c =
+    let s = (goal.at.invariant_of-self c).After-set_node in
     let near = c.approach-near in
-    listed-renewed c.args.node near.result near.new.self _ near.ensures.listed refl near.ensures.within (entry s) (omega arith)
-    refl refl (c.set.ensures ∙ ap (λ n. set c.clear.new.self near.result n) c.node_number-2.ensures
-    ∙ ap (λ ns. set ns near.result (suc (suc c.args.node))) c.clear.ensures) refl (ap (set (items s) near.result) (renamed s))
+    record {
+      listed = listed-renewed c.args.node near.result near.new.self refl near.ensures.within (entry s) (omega arith)
+          refl refl (c.set.ensures ∙ ap (λ n. set c.clear.new.self near.result n) c.node_number-2.ensures
+          ∙ ap (λ ns. set ns near.result (suc (suc c.args.node))) c.clear.ensures) refl (ap (set (items s) near.result) (renamed s));
+    }
 
 pub carry-requires-clause-to : goal.carry-requires-clause-to
 carry-requires-clause-to c =
@@ -55,16 +57,18 @@ carry-requires-clause-to c =
       length-set (items s) (i s) c.set_node.new.self,
     )
 
-pub returns-clause-items : goal.returns-clause-items
-returns-clause-items c =
-    let s = (goal.at.returns-clause-items c).After-set_node in
+pub returns : goal.returns
+returns c =
+    let s = (goal.at.returns c).After-set_node in
     let near = c.approach-near in
     let old = c.args.self.now.items.items in
-    let there = any-same c.args.mark (omega arith) old (items s) c.args.index near.result c.requires.listed.stored near.ensures.listed.stored near.ensures.rest
+    let there = any-same c.args.mark (omega arith) old (items s) c.args.index near.result c.args.self.now.listed.stored near.new.self.listed.stored near.ensures.rest
     ∙ c.requires.mark in
-    ap live (ap listed_items c.carry.ensures.items
-    ∙ moved-after c.args.node c.args.mark (items s) near.result c.if-place-near.to c.set_node.new.self near.ensures.within (entry s) (renamed s)
-    (placed s) there
-    ∙ ap (λ x. item_put_before (is_entry c.args.mark) (for_node c.args.node (item_of x)) (listed_items (remove (items s) near.result))) near.ensures.entry)
-    ∙ put-same c.args.mark (omega arith) old (items s) c.args.index near.result c.requires.listed.stored near.ensures.listed.stored
-    near.ensures.rest c.args.node c.requires.entry c.requires.within
+    record {
+      items = ap live (ap listed_items c.carry.ensures.items
+          ∙ moved-after c.args.node c.args.mark (items s) near.result c.if-place-near.to c.set_node.new.self near.ensures.within (entry s) (renamed s)
+          (placed s) there
+          ∙ ap (λ x. item_put_before (is_entry c.args.mark) (for_node c.args.node (item_of x)) (listed_items (remove (items s) near.result))) near.ensures.entry)
+          ∙ put-same c.args.mark (omega arith) old (items s) c.args.index near.result c.args.self.now.listed.stored near.new.self.listed.stored
+          near.ensures.rest c.args.node c.requires.entry c.requires.within;
+    }
