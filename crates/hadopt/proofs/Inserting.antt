@@ -1,5 +1,5 @@
 -- What is inserted keeps what the open nodes need, and what the operations keep, the calls that do them keep.
-use Rattle.hadopt.proofs.Names.{◌≡◌, ◌≢◌, ℕ, zero, suc, ◌+◌, ◌<◌, Bool, true, false, leb, cond, List, [], ◌∷◌, Option, Some, None, cond_both, refl, sym, ◌∙◌, subst, arith, inl, inr, find, reverse, is_some, is_none, length, ◌&&◌, encode_utf8, option_map_or, Attribute, What, document, element, text, Forest, times, change_what, parent_of, AreCounted, place_node, graft, make, char_into, with_char, text_before, Place, LastIn, Before, before, changed_at, OpenNode, current, above, is_named, InPlace, EntryOf, Listed, marker, entry, for_node, entry_at, Table, TooManyNodes, NotBefore, below-document, in-document, at-most, not-there, deep-there, times-new, counted-new, deep, deep-is, deep-self, deep-new, deep-newest, graft-apart, Naming, Goes, Refused, SiteOf, stack, trees, with_trees, with_stack, from_top, open_node, is_fostering, beside, foster_place, place, added, inserted, put, with_missing, stops_going_back, renewed, renewed_each, reconstructed, InnerLoop, PlaceStands, slice_get, drop, if◌then◌else◌, is_open, ◌≤◌, numbers, ◌==◌, Ok, Err, Result, IfOk, entries, without_entry, Placed, Refusal, Gives, listed, put_each, IsSound, Outcome, and_then, with_items, comment, not, ap, list_any, after_marker, ne_eqb, lt-leb, tree, none, Nodes, OpenNodes}
+use Rattle.hadopt.proofs.Names.{◌≡◌, ◌≢◌, ℕ, zero, suc, ◌+◌, ◌<◌, Bool, true, false, leb, cond, List, [], ◌∷◌, Option, Some, None, cond_both, refl, sym, ◌∙◌, subst, arith, inl, inr, find, reverse, is_some, is_none, length, ◌&&◌, encode_utf8, option_map_or, Attribute, What, document, element, text, Forest, times, change_what, parent_of, AreCounted, place_node, graft, make, char_into, with_char, text_before, Place, LastIn, Before, before, changed_at, OpenNode, current, above, is_named, InPlace, EntryOf, Listed, marker, entry, for_node, entry_at, Table, TooManyNodes, NotBefore, below-document, in-document, at-most, not-there, deep-there, times-new, counted-new, deep, deep-is, deep-self, deep-new, deep-newest, graft-apart, Naming, Goes, Refused, SiteOf, stack, trees, with_trees, with_stack, from_top, open_node, is_fostering, beside, foster_place, place, added, inserted, put, with_missing, stops_going_back, renewed, renewed_each, reconstructed, InnerLoop, PlaceStands, slice_get, drop, if◌then◌else◌, is_open, ◌≤◌, numbers, ◌==◌, Ok, Err, Result, IfOk, entries, without_entry, Placed, Refusal, Gives, listed, put_each, IsSound, Outcome, and_then, with_items, comment, not, list_any, after_marker, ne_eqb, lt-leb, tree, none, Nodes, OpenNodes}
 use Rattle.hnodes.specs.Attributes.{is_present}
 use Rattle.hnodes.specs.Spots.{attributes_of}
 use Rattle.hnodes.specs.Edits.{with_attribute, add_attribute}
@@ -12,7 +12,7 @@ use Rattle.hadopt.proofs.Climbing.{OnGoes, goes-then, made-goes, inserted-goes, 
 use Rattle.hadopt.proofs.Searching.{Member, last-behind, found-member}
 use Rattle.hadopt.proofs.Settling.{Well, Fits, document-fits, before-fits, current-fits, under-fits, placed-well, block-stands}
 use Rattle.std.proofs.Math.Dec.{eqb-suc-zero}
-use Rattle.hopen.specs.Formatting.{cleared, is_equal, most_equal, without_earliest, with_room, pushed as entry_pushed}
+use Rattle.hopen.specs.Formatting.{cleared, is_equal, most_equal, without_earliest, with_room}
 use Rattle.hadopt.proofs.Keeping.{to-well, from-well}
 use Rattle.hadopt.proofs.Turning.{fewer}
 use Rattle.std.proofs.Common.{filter, ltb}
@@ -235,18 +235,6 @@ module _ {N : Type 0} where
 
   pub among-room : (same : N → N → Bool) (new : EntryOf N) (items : List (Listed N)) → Among (entries (with_room same new items)) (entries items)
   among-room same new items = cond_both (leb most_equal (length (filter (is_equal same new) (after_marker items)))) _ _ (λ l. Among (entries l) (entries items)) (λ _. among-earliest (is_equal same new) items) (λ _. among-all (entries items))
-
-module _ {N : Type 0} (at : ℕ) (name : N) (attrs : List (Attribute N)) (p : Place) (s t : SiteOf N) where
-  -- a new element is the current node
-  current-inserted : inserted at name attrs p s ≡ Goes t → open_node (current (stack t)) ≡ s.nodes.made
-  current-inserted is = subst (OnGoes (λ (u : SiteOf N). open_node (current (stack u)) ≡ s.nodes.made)) is (inserted-goes (λ u. open_node (current (stack u)) ≡ s.nodes.made) at name attrs p s refl)
-
-  -- and its entry is listed
-  pub listed-after : (n : Naming N) (u : SiteOf N) (k : ℕ) → inserted at name attrs p s ≡ Goes t → k ≡ s.nodes.made → u ≡ with_items (entry_pushed n.same (record { node = k; name = name; attrs = attrs }) t.items) t
-      → and_then (inserted at name attrs p s) (λ v. Goes (listed n name attrs v)) ≡ Goes u
-  listed-after n u k is number entered =
-      ap (λ o. and_then o (λ v. Goes (listed n name attrs v))) is
-      ∙ ap (λ j. Goes (with_items (entry_pushed n.same (record { node = j; name = name; attrs = attrs }) t.items) t)) (current-inserted is ∙ sym number) ∙ ap (λ v. Goes v) (sym entered)
 
 module _ {N : Type 0} (n : Naming N) where
   -- Where an operation keeps it, so does the call that does it.

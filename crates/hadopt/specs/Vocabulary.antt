@@ -30,6 +30,7 @@ pub use Rattle.hopen.specs.Scopes.{is_named, is_of, stops_in_scope as stops_node
 pub use Rattle.hopen.specs.Stack.{is_node, is_open, furthest_block, above, current, current as current_of, in_scope as is_in_scope}
 pub use Rattle.hopen.specs.declared.scope.Scope.TheVariants.{Default}
 pub use Rattle.names.specs.Names.{Texts, AreNames}
+pub use Rattle.names.specs.declared.error.ErrorCode.TheVariants.{TreeInBody}
 pub use Rattle.names.specs.Placed.{placed}
 pub use Rattle.names.specs.Sets.{may_stay_open}
 pub use Rattle.names.specs.Spelling.{spelling}

@@ -35,8 +35,7 @@ const MOST_KEPT: usize = 3;
 const MOST_TURNS: usize = 8;
 
 impl Site {
-    /// Steps 4.13.6 to 4.13.9: creates an element for the token of the node's entry, replaces the node by it, and appends the last node to
-    /// it; it is the last node then.
+    /// Steps 4.13.6 to 4.13.9: the node gives way to a new one, which is the last node then.
     fn replace_node(
         &mut self,
         inner: InnerLoop,
@@ -58,7 +57,8 @@ impl Site {
         // Step 4.13.8
         self.graft(inner.last_node, Place::LastIn(new));
         // Step 4.13.6
-        self.replace(node, new, entry.name)?;
+        let name = entry.name;
+        self.replace(node, Open { node: new, name })?;
         self.list.replace(node, new);
         // Step 4.13.7
         let bookmark = if inner.last_node == furthest_block {
@@ -135,9 +135,7 @@ impl Site {
         Ok(inner)
     }
 
-    /// Steps 4.14 to 4.19: the last node goes to the appropriate place in the common ancestor. A new element takes all children of the
-    /// furthest block and is appended to it; it is at the bookmark, and on the stack right below the furthest block, in place of the
-    /// formatting element.
+    /// Steps 4.14 to 4.19: the last node goes to its place, and a new element comes in place of the formatting element.
     fn after_inner_loop(
         &mut self,
         formatting_element: Entry,
@@ -161,8 +159,8 @@ impl Site {
         self.move_children(furthest_block, new);
         self.graft(new, Place::LastIn(furthest_block));
         // Step 4.19
-        let leaving = formatting_element.node;
-        self.exchange(leaving, furthest_block, new, formatting_element.name)?;
+        let (leaving, name) = (formatting_element.node, formatting_element.name);
+        self.exchange(leaving, furthest_block, Open { node: new, name })?;
         // Step 4.18
         self.move_to_bookmark(formatting_element.node, new, inner.bookmark);
         Ok(())
@@ -211,8 +209,7 @@ impl Site {
         Ok(Turn::Ended)
     }
 
-    /// Steps 4.6 and 4.8: the end of a turn without a furthest block. The formatting element, which should be the current node, is popped,
-    /// and its entry is removed.
+    /// Steps 4.6 and 4.8: the end of a turn without a furthest block.
     fn without_furthest_block(&mut self, node: NodeId, at: u64) -> Result<Turn, Refusal>
         requires in_scope { is_in_scope (stops_node tag_of Default) (is_node node) (stack self.old) ≡ true }
         requires no_block { furthest_block tag_of node (stack self.old) ≡ None }
@@ -220,7 +217,7 @@ impl Site {
         ensures nodes { self.new.nodes ≡ self.old.nodes }
     {
         let found = self.is_current(node);
-        self.error_unless(found, ErrorCode::TreeInBody, at)?;
+        self.error_unless(found, at)?;
         self.pop_to_node(node);
         self.remove_entry(node);
         Ok(Turn::Ended)
@@ -295,7 +292,6 @@ impl Site {
         self.outer_loop(MOST_TURNS, subject, at)
     }
 
-    /// Moves a node from where it is to a place.
     #[inline(always)]
     pub(crate) fn graft(&mut self, child: NodeId, place: Place)
         requires child_in { child < self.old.nodes.made }
@@ -307,7 +303,6 @@ impl Site {
         self.tree.insert(child, place);
     }
 
-    /// Moves the children of a node to the end of another node.
     pub(crate) fn move_children(&mut self, from: NodeId, to: NodeId)
         requires from_in { from < self.old.nodes.made }
         requires to_in { to < self.old.nodes.made }
@@ -318,36 +313,24 @@ impl Site {
         self.tree.move_children(from, to);
     }
 
-    /// Puts another node in the place of an open one.
-    pub(crate) fn replace(
-        &mut self,
-        replaced: NodeId,
-        node: NodeId,
-        name: NameId,
-    ) -> Result<(), AllocError>
-        requires begun { 0 < node }
-        requires node_in { node < self.old.nodes.made }
-        ensures done { OnOk result (self.new ≡ with_stack (changed (is_node replaced) (λ _. record { node = node; name = name }) (stack self.old)) self.old) }
+    fn replace(&mut self, replaced: NodeId, by: Open) -> Result<(), AllocError>
+        requires begun { 0 < by.node }
+        requires node_in { by.node < self.old.nodes.made }
+        ensures done { OnOk result (self.new ≡ with_stack (changed (is_node replaced) (λ _. open_of by) (stack self.old)) self.old) }
         ensures nodes { self.new.nodes ≡ self.old.nodes }
     {
-        self.stack.replace(replaced, Open { node, name })
+        self.stack.replace(replaced, by)
     }
 
     /// Removes an open node and inserts a new one right below another, which is never too deep.
-    pub(crate) fn exchange(
-        &mut self,
-        leaving: NodeId,
-        above: NodeId,
-        node: NodeId,
-        name: NameId,
-    ) -> Result<(), AllocError>
-        requires begun { 0 < node }
-        requires node_in { node < self.old.nodes.made }
+    fn exchange(&mut self, leaving: NodeId, above: NodeId, new: Open) -> Result<(), AllocError>
+        requires begun { 0 < new.node }
+        requires node_in { new.node < self.old.nodes.made }
         requires leaving { is_open leaving (stack self.old) ≡ true }
         ensures done { OnOk result (self.new
-            ≡ with_stack (item_put_before (is_node above) (record { node = node; name = name }) (without (is_node leaving) (stack self.old))) self.old) }
+            ≡ with_stack (item_put_before (is_node above) (open_of new) (without (is_node leaving) (stack self.old))) self.old) }
         ensures nodes { self.new.nodes ≡ self.old.nodes }
     {
-        self.stack.exchange(leaving, above, Open { node, name })
+        self.stack.exchange(leaving, above, new)
     }
 }

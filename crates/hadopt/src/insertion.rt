@@ -26,56 +26,12 @@ impl Site {
         ensures number { IfOk result (λ n. n ≡ self.old.nodes.made) }
         ensures kept { IsSound numbers self.old → PlaceStands place (trees self.old) → IfOk result (λ _. IsSound numbers self.new) }
     {
-        let node = self.create(name, attrs, at)?;
-        self.enter(node, name, place, at)?;
+        let node = self.tree.create_element_from(name, attrs, at)?;
+        self.enter(Open { node, name }, place, at)?;
         Ok(node)
     }
 
-    /// Inserts a new element of attributes that its entry shares, and makes it the current node.
-    #[inline(always)]
-    fn insert_copying(
-        &mut self,
-        name: NameId,
-        attrs: &Attributes,
-        place: Place,
-        at: u64,
-    ) -> Result<NodeId, Refusal>
-        requires { IsPlace place self.old.nodes }
-        ensures done { Gives result self.new (inserted at name attrs.now place self.old) }
-        ensures number { IfOk result (λ n. n ≡ self.old.nodes.made) }
-    {
-        let node = self.create_copying(name, attrs, at)?;
-        self.enter(node, name, place, at)?;
-        Ok(node)
-    }
-
-    /// Inserts a new element that shares its attributes, and makes it the current node.
-    #[inline(always)]
-    pub(crate) fn insert_sharing(
-        &mut self,
-        name: NameId,
-        attrs: Attributes,
-        place: Place,
-        at: u64,
-    ) -> Result<NodeId, Refusal>
-        requires { IsPlace place self.old.nodes }
-        ensures done { Gives result self.new (inserted at name attrs place self.old) }
-        ensures number { IfOk result (λ n. n ≡ self.old.nodes.made) }
-    {
-        let node = self.create_sharing(name, attrs, at)?;
-        self.enter(node, name, place, at)?;
-        Ok(node)
-    }
-
-    /// Creates an element for a token (`#create-an-element-for-the-token`), which has no parent yet. The attributes leave their list.
-    #[inline(always)]
-    fn create(&mut self, name: NameId, attrs: &mut Vec<Attr>, at: u64) -> Result<NodeId, Refusal>
-        ensures { Creates (element name (map attribute_of attrs.old.items)) at self.old self.new result }
-    {
-        self.tree.create_element_from(name, attrs, at)
-    }
-
-    /// The same, which shares its attributes.
+    /// Creates an element for a token (`#create-an-element-for-the-token`), which shares its attributes and has no parent yet.
     #[inline(always)]
     pub(crate) fn create_sharing(
         &mut self,
@@ -88,30 +44,16 @@ impl Site {
         self.tree.create_sharing(name, attrs, at)
     }
 
-    /// The same, of attributes that others share, a few of which are copied.
     #[inline(always)]
-    fn create_copying(
-        &mut self,
-        name: NameId,
-        attrs: &Attributes,
-        at: u64,
-    ) -> Result<NodeId, Refusal>
-        ensures { Creates (element name attrs.now) at self.old self.new result }
-    {
-        self.tree.create_copying(name, attrs, at)
-    }
-
-    /// Puts a new element at a place and makes it the current node.
-    #[inline(always)]
-    fn enter(&mut self, node: NodeId, name: NameId, place: Place, at: u64) -> Result<(), Refusal>
-        requires begun { 0 < node }
-        requires node_in { node < self.old.nodes.made }
+    pub(crate) fn enter(&mut self, opened: Open, place: Place, at: u64) -> Result<(), Refusal>
+        requires begun { 0 < opened.node }
+        requires node_in { opened.node < self.old.nodes.made }
         requires place { IsPlace place self.old.nodes }
-        requires not_inside { IsOutside (place_node place) node (trees self.old) }
-        ensures { Gives result self.new (with_open at (record { node = node; name = name }) (with_trees (graft node place (trees self.old)) self.old)) }
+        requires not_inside { IsOutside (place_node place) opened.node (trees self.old) }
+        ensures { Gives result self.new (with_open at (open_of opened) (with_trees (graft opened.node place (trees self.old)) self.old)) }
     {
-        self.graft(node, place);
-        self.push(Open { node, name }, at)
+        self.graft(opened.node, place);
+        self.push(opened, at)
     }
 
     /// Inserts a formatting element, which also gets an entry in the list of active formatting elements
@@ -129,7 +71,8 @@ impl Site {
         ensures kept { IsSound numbers self.old → PlaceStands place (trees self.old) → nat_eq name (number_of Tag.Table) ≡ false
             → IfOk result (λ _. IsSound numbers self.new) }
     {
-        let new = self.insert_copying(name, &attrs, place, at)?;
+        let new = self.tree.create_copying(name, &attrs, at)?;
+        self.enter(Open { node: new, name }, place, at)?;
         self.list.push(new, name, attrs)?;
         Ok(new)
     }

@@ -11,7 +11,6 @@ use hopen::{Bookmark, Entry};
 use names::Refusal;
 use std::alloc::AllocError;
 
-/// A copy of an entry.
 pub(crate) fn copy(entry: Option<&Entry>) -> Result<Option<Entry>, AllocError>
     ensures { IfOk result (λ copy. option_map entry_is copy ≡ option_map (λ e. entry_is e.now) entry.entry) }
 {
@@ -49,7 +48,6 @@ impl Site {
         self.list.remove(node);
     }
 
-    /// Makes a node's entry that of another node, and moves it to the bookmark.
     pub(crate) fn move_to_bookmark(&mut self, from: NodeId, to: NodeId, bookmark: Bookmark)
         requires entry { IsTrue (list_any (is_entry from) self.old.items) }
         requires bookmark { IsTrue (has_bookmark from bookmark self.old.items) }

@@ -9,7 +9,6 @@ use hnodes::Place;
 use hopen::Open;
 use names::Tag;
 
-/// Whether what is put into such an element is foster parented.
 pub(crate) fn fosters(tag: Tag) -> bool
     ensures { result ≡ is_fostering tag }
 {
@@ -71,7 +70,6 @@ impl Site {
         self.last_in(target)
     }
 
-    /// Whether what goes into an open node is foster parented.
     fn is_fostered(&self, target: &Option<Open>) -> bool
         ensures { result ≡ (self.now.foster && option_map_or (λ x. is_fostering (tag_of x.name)) (option_map open_of target.now) false) }
     {
@@ -89,7 +87,6 @@ impl Site {
         }
     }
 
-    /// The place right before a table, or at the end of the open node above it if it has no parent.
     fn beside(&self, table: Open) -> Place
         requires { table.node < self.now.nodes.made }
         ensures place { result ≡ beside self.now (open_of table) }
@@ -101,7 +98,6 @@ impl Site {
         self.last_in(self.stack.above(table.node))
     }
 
-    /// The place at the end of an open node, or of the document if there is none.
     fn last_in(&self, target: Option<Open>) -> Place
         requires { IfSome target (λ x. x.node < self.now.nodes.made) }
         ensures place { result ≡ LastIn (open_node (option_map open_of target)) }

@@ -24,7 +24,6 @@ pub enum Passing {
 }
 
 impl Passing {
-    /// Whether a node is popped.
     #[inline(always)]
     fn is(&self, node: Open) -> bool
         ensures { result ≡ passes self.now (open_of node) }
@@ -40,7 +39,6 @@ impl Passing {
     }
 }
 
-/// Pops nodes as long as they pass.
 #[inline(always)]
 fn pop_past(stack: &mut OpenStack, passing: Passing)
     ensures { stack.new ≡ record stack.old { stack = popped_past (passes passing) stack.old.stack } }
@@ -87,7 +85,6 @@ impl Site {
         self.stack.pop_to_group(group);
     }
 
-    /// Pops nodes up to and including a node; all of them if it is not open.
     pub(crate) fn pop_to_node(&mut self, node: NodeId)
         ensures { self.new ≡ popped_to (is_node node) self.old }
     {
@@ -111,7 +108,7 @@ impl Site {
     {
         self.pop_past(Passing::Implied(Some(name)));
         let found = self.current_is(name);
-        self.error_unless(found, ErrorCode::TreeInBody, at)?;
+        self.error_unless(found, at)?;
         self.pop_to(name);
         Ok(())
     }

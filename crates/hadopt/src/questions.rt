@@ -101,7 +101,6 @@ impl Site {
         self.stack.item_is_near(name)
     }
 
-    /// The topmost special node below a formatting element.
     pub(crate) fn furthest_block(&self, formatting: NodeId) -> Option<Open>
         ensures { option_map open_of result ≡ furthest_block tag_of formatting (stack self.now) }
     {

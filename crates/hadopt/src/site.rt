@@ -1,7 +1,7 @@
 //! The site that the tree rules edit: nodes, open elements, formatting elements, foster parenting, parse errors.
 
 ghost use Rattle.std.specs.Prelude.{◌≡◌, ◌<◌, IfOk, OnOk, false, []};
-ghost use Rattle.hadopt.specs.Vocabulary.{document, none, tree, Gives, IsSound, numbers, Goes, with_error, with_again, error_unless};
+ghost use Rattle.hadopt.specs.Vocabulary.{document, none, tree, Gives, IsSound, numbers, Goes, with_error, with_again, error_unless, TreeInBody};
 
 use hnodes::{NodeId, Tree};
 use hopen::{Formatting, OpenStack};
@@ -97,20 +97,15 @@ impl Site {
         Ok(())
     }
 
-    /// Adds a parse error unless a test passes.
-    pub(crate) fn error_unless(
-        &mut self,
-        passes: bool,
-        code: ErrorCode,
-        at: u64,
-    ) -> Result<(), Refusal>
-        ensures done { Gives result self.new (Goes (error_unless passes code at self.old)) }
+    /// Adds the error of a tag that is not expected, unless a test passes.
+    pub(crate) fn error_unless(&mut self, passes: bool, at: u64) -> Result<(), Refusal>
+        ensures done { Gives result self.new (Goes (error_unless passes TreeInBody at self.old)) }
         ensures nodes { self.new.nodes ≡ self.old.nodes }
     {
         if passes {
             return Ok(());
         }
-        self.error(code, at)
+        self.error(ErrorCode::TreeInBody, at)
     }
 
     /// Notes that an element is another one made again: it was made for the entry of that in the list of active formatting elements.

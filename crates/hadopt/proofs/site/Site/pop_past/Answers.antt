@@ -1,5 +1,5 @@
 use Rattle.hadopt.proofs.Lists.{each-among}
-use Rattle.hadopt.proofs.Names.{rules, numbers, stack, passes}
+use Rattle.hadopt.proofs.Names.{rules, numbers, stack, passes, IsSound, sym, subst}
 use Rattle.hadopt.proofs.Inserting.{fewer-kept}
 use Rattle.hadopt.proofs.Turning.{among-past}
 use Rattle.hadopt.proofs.site.Site.pop_past.Goals as goal
@@ -7,8 +7,5 @@ use Rattle.hadopt.proofs.site.Site.pop_past.Goals as goal
 pub invariant_of-self : goal.invariant_of-self
 invariant_of-self c = rw (c.pop_past.ensures) (each-among _ _ _ (among-past (passes c.args.passing) c.self.inside.stack.stack) c.self.invariant)
 
-pub returns-clause-site : goal.returns-clause-site
-returns-clause-site c = search rules
-
 pub returns-clause-kept : goal.returns-clause-kept
-returns-clause-kept c = λ k. rw (returns-clause-site c) (fewer-kept numbers c.args.self.now _ (among-past _ (stack c.args.self.now)) k)
+returns-clause-kept c = λ k. subst (IsSound numbers) (sym (search rules)) (fewer-kept numbers c.args.self.now _ (among-past (passes c.args.passing) (stack c.args.self.now)) k)

@@ -1,4 +1,4 @@
-use Rattle.hadopt.proofs.Names.{rules, numbers, stack, nat_eq, is_named}
+use Rattle.hadopt.proofs.Names.{rules, numbers, stack, nat_eq, is_named, IsSound, sym, subst}
 use Rattle.hadopt.proofs.Inserting.{fewer-kept}
 use Rattle.hadopt.proofs.Lists.{each-among, among-after}
 use Rattle.hadopt.proofs.site.Site.pop_to.Goals as goal
@@ -6,8 +6,5 @@ use Rattle.hadopt.proofs.site.Site.pop_to.Goals as goal
 pub invariant_of-self : goal.invariant_of-self
 invariant_of-self c = rw (c.pop_to.ensures) (each-among _ _ _ (among-after (is_named nat_eq c.args.name) c.self.inside.stack.stack) c.self.invariant)
 
-pub returns-clause-site : goal.returns-clause-site
-returns-clause-site c = search rules
-
 pub returns-clause-kept : goal.returns-clause-kept
-returns-clause-kept c = λ k. rw (returns-clause-site c) (fewer-kept numbers c.args.self.now _ (among-after _ (stack c.args.self.now)) k)
+returns-clause-kept c = λ k. subst (IsSound numbers) (sym (search rules)) (fewer-kept numbers c.args.self.now _ (among-after (is_named nat_eq c.args.name) (stack c.args.self.now)) k)
