@@ -1,8 +1,8 @@
 //! Why the program ends without an answer, and what it says then.
 
-ghost use Rattle.std.specs.Prelude.{◌≡◌, ◌∷◌, ◌++◌, [], IfSome, None, Some, codes, option_map};
+ghost use Rattle.std.specs.Prelude.{◌≡◌, ◌∷◌, [], IfSome, None, Some, option_map};
 ghost use Rattle.std.specs.List.{concat};
-ghost use Rattle.htmlp.specs.Vocabulary.{around_name, detail_text, explained, fault_line, message_text, name_line, numeric_name, number_line, number_text, range_text, refusal_line};
+ghost use Rattle.htmlp.specs.Vocabulary.{around_name, explained, fault_line, message_text, name_line, number_line, refusal_line};
 ghost use Rattle.htmlp.specs.Fault.{fault_of_error};
 ghost use Rattle.htmlp.specs.declared.fault.Fault.TheVariants as fault;
 
@@ -53,7 +53,7 @@ impl<'a> Fault<'a> {
             Fault::NotUtf8 => Message::of("fault: the command line is not UTF-8", "", "", ""),
             Fault::NoRandomBytes => Message::of("fault: no random bytes", "", "", ""),
             Fault::Line(_) => Message::of("", "", "", ""),
-            Fault::Number { option, value } => number_line(*option, *value),
+            Fault::Number { option, value } => no_number(value, option.name(), option.range_text()),
             Fault::BadBytes => Message::of("fault: --bad-bytes is refuse or replace", "", "", ""),
             Fault::Limit(_) => refusal_line(Refusal::BadLimits),
             Fault::Refused { refusal, .. } => refusal_line(*refusal),
@@ -80,14 +80,8 @@ impl<'a> Fault<'a> {
     }
 }
 
-fn number_line<'a>(option: Numeric, value: &'a str) -> Message<'a>
-    ensures { message_text result ≡ number_line value.now (numeric_name option) (range_text option) }
-{
-    value_line(value, option.name(), option.range_text())
-}
-
 /// What is said of a value that is no number: as `clap` says it, in two lines.
-fn value_line<'a>(value: &'a str, name: &'a str, range: &'a str) -> Message<'a>
+fn no_number<'a>(value: &'a str, name: &'a str, range: &'a str) -> Message<'a>
     ensures { message_text result ≡ number_line value.now name.now range.now }
 {
     let words = [
@@ -111,23 +105,14 @@ fn refusal_line<'a>(refusal: Refusal) -> Message<'a>
     match refusal {
         Refusal::Read => Message::of("fault: cannot read", "", "", ""),
         Refusal::Write => Message::of("fault: cannot write", "", "", ""),
-        _ => refused_line(refusal.name(), refusal.detail(), refusal.number()),
+        _ => Message {
+            words: match refusal.detail() {
+                Some(word) => ["refused: ", refusal.name(), " ", word, "", "", ""],
+                None => ["refused: ", refusal.name(), "", "", "", "", ""],
+            },
+            number: refusal.number(),
+        },
     }
-}
-
-fn refused_line<'a>(
-    name: &'a str,
-    detail: Option<&'a str>,
-    number: Option<(&'a str, u64)>,
-) -> Message<'a>
-    ensures { message_text result ≡ codes "refused: " ++ ((name.now ++ detail_text (option_map (λ s. s.now) detail.entry))
-        ++ number_text (option_map (λ p. (p.0.now, p.1)) number.entry)) }
-{
-    let words = match detail {
-        Some(word) => ["refused: ", name, " ", word, "", "", ""],
-        None => ["refused: ", name, "", "", "", "", ""],
-    };
-    Message { words, number }
 }
 
 /// What stands around the name of what was refused.

@@ -38,17 +38,12 @@ impl Surroundings for HostRuntime {
     }
 
     fn words(&self) -> Result<Vec<String>, Fault<'static>> {
-        match env::args(self) {
-            Ok(words) => Ok(words.collect(Alloc::alloc(self))?),
-            Err(error) => Err(words_fault(error.kind())),
-        }
+        let words = env::args(self).map_err(|error| words_fault(error.kind()))?;
+        Ok(words.collect(Alloc::alloc(self))?)
     }
 
     fn keys(&self) -> Result<Keys, Fault<'static>> {
-        match Keys::random(self) {
-            Ok(keys) => Ok(keys),
-            Err(_) => Err(Fault::NoRandomBytes),
-        }
+        Keys::random(self).or(Err(Fault::NoRandomBytes))
     }
 
     fn on_terminal(&self) -> bool {
@@ -56,10 +51,7 @@ impl Surroundings for HostRuntime {
     }
 
     fn open(&self, name: &str) -> Option<Counted<File>> {
-        match File::open(self, name) {
-            Ok(file) => Some(Counted::new(file)),
-            Err(_) => None,
-        }
+        File::open(self, name).ok().map(Counted::new)
     }
 
     fn text<'a>(&self, name: &'a str) -> Result<String, Fault<'a>> {

@@ -66,7 +66,12 @@ fn answer<'a, R: Surroundings, S: Source, W: Target>(
         return write_version(output);
     }
     let line = line(surroundings.alloc(), words)?;
-    answer_line(surroundings, keys, line, input, output)
+    let table = table(surroundings, line.entities)?;
+    let quirks = quirks(surroundings, line.quirks)?;
+    let outcome = answer_with(surroundings, keys, line, &table, &quirks, input, output);
+    drop(quirks);
+    drop(table);
+    outcome
 }
 
 /// Whether the words are `--version` or `-V` alone, after the program's own name.
@@ -82,31 +87,10 @@ fn asks_version(words: &[String]) -> bool
 fn write_version<'a, W: Target>(output: &mut W) -> Result<(), Fault<'a>>
     ensures { WritesVersion W.written W.failed output.old output.new result }
 {
-    write_text(output, VERSION)?;
-    Ok(())
+    Ok(write_text(output, VERSION)?)
 }
 
-/// Does what a line says, which is what any words that it is of say.
-fn answer_line<'a, R: Surroundings, S: Source, W: Target>(
-    surroundings: &R,
-    keys: Keys,
-    line: Line<'a>,
-    input: &mut S,
-    output: &mut W,
-) -> Result<(), Fault<'a>>
-    requires { 0 < line.command.piece }
-    ensures { (words : List Text) → SaysLine (task_of words) (option_value words) line.entry
-        → AnswersWords R.world R.File.left R.File.failed S.left S.failed W.written W.failed surroundings.now words input.old input.new output.old output.new result }
-{
-    let table = table(surroundings, line.entities)?;
-    let quirks = quirks(surroundings, line.quirks)?;
-    let outcome = answer_with(surroundings, keys, line, &table, &quirks, input, output);
-    drop(quirks);
-    drop(table);
-    outcome
-}
-
-/// The same, with the lists that it names.
+/// Does what a line says, which is what any words that it is of say, with the lists that it names.
 fn answer_with<'a, R: Surroundings, S: Source, W: Target>(
     surroundings: &R,
     keys: Keys,
