@@ -1,16 +1,15 @@
 //! What an input is parsed as, and the rows of its tree.
 
-ghost use Rattle.std.specs.Prelude.{◌<◌, MatchResult};
-ghost use Rattle.html_c.specs.Vocabulary.{options_of, own_context, AllowsContext, GivesNoRows, GivesNothing, GivesRows, HasSettings, ComesToParse, GivesParse, parsed_rows, parsed_words};
+ghost use Rattle.std.specs.Prelude.{MatchResult};
+ghost use Rattle.html_c.specs.Vocabulary.{GivesNoRows, GivesNothing, GivesRows, HasSettings, GivesParse, parsed_rows, parsed_words};
 
 use crate::answer::Given;
 use crate::fault::CallFault;
 use crate::given::Settings;
 use crate::input::Input;
 use crate::rows::Rows;
-use hparse::{Options, Parsed, parse_reader};
+use hparse::{Parsed, parse_reader};
 use hwrite::parser;
-use names::Refusal;
 use std::alloc::Global;
 
 /// The tree of an input, with its rows and its words counted.
@@ -36,21 +35,7 @@ pub(crate) fn parse_of(
 {
     let lists = given.lists(alloc, input)?;
     let options = given.options(&lists, places);
-    let parsed = parsed(alloc, settings, input, &options);
-    drop(lists);
-    Ok(parsed?)
-}
-
-fn parsed(
-    alloc: Global,
-    settings: &Settings,
-    input: &[u8],
-    options: &Options,
-) -> Result<Parsed, Refusal>
-    requires { AllowsContext (own_context settings.now.context) × (0 < settings.now.piece) }
-    ensures { ComesToParse (options_of options.now) (own_context settings.now.context) (input.now) result }
-{
-    let parser = parser(alloc, settings.context, options)?;
+    let parser = parser(alloc, settings.context, &options)?;
     let mut source = Input { rest: input };
-    parse_reader(alloc, parser, settings.piece, &mut source)
+    Ok(parse_reader(alloc, parser, settings.piece, &mut source)?)
 }
