@@ -1,6 +1,6 @@
 //! What each call has at hand: a tree and names.
 
-ghost use Rattle.std.specs.Prelude.{◌≡◌};
+ghost use Rattle.std.specs.Prelude.{◌≡◌, ◌<◌};
 
 use hnodes::{NodeId, Tree};
 use hopen::Open;
@@ -29,7 +29,9 @@ impl Hand {
     }
 
     /// The node of a number; the document if there is none.
-    pub fn node(&self, number: usize) -> NodeId {
+    pub fn node(&self, number: usize) -> NodeId
+        ensures { result < self.now.tree.made }
+    {
         self.tree.node(number).unwrap_or(self.tree.document())
     }
 

@@ -7,18 +7,15 @@
 
 mod hand;
 mod list;
-mod made;
-mod page;
 mod stack;
+mod texts;
 mod tree;
 mod words;
 
 use crate::hand::Hand;
+use crate::texts::Texts;
 use crate::words::Call;
-use charref::Table;
-use hmarkup::Quirks;
 use hopen::{Formatting, OpenStack};
-use hwrite::Options;
 use names::{Keys, Refusal};
 use std::alloc::{AllocError, Global};
 use std::io;
@@ -43,26 +40,23 @@ fn run(rt: &HostRuntime, structures: &mut Structures) -> io::Result<()> {
     rt.print(&answers)
 }
 
-/// A stack of open elements, a list of active formatting elements, a table of references, a quirks list, and a tree and names for all calls.
+/// A stack of open elements, a list of active formatting elements, what pages are read by, and a tree and names for all calls.
 #[derive(Drop)]
 struct Structures {
     hand: Hand,
     stack: OpenStack,
     list: Formatting,
-    table: Table,
-    quirks: Quirks,
+    texts: Texts,
 }
 
 impl Structures {
     /// Empty lists, and the document alone.
     fn new(alloc: Global) -> Result<Self, Refusal> {
-        let table = Table::core(alloc)?;
         Ok(Structures {
-            quirks: Quirks::read(alloc, "")?,
+            texts: Texts::new(alloc)?,
             hand: Hand::new(alloc)?,
             stack: OpenStack::new(alloc, MOST_OPEN),
             list: Formatting::new(alloc, Keys::for_tests()),
-            table,
         })
     }
 
@@ -106,22 +100,7 @@ impl Structures {
                 let name = hand.name(call.turn)?;
                 Ok(hand.names.get(name).is_some())
             }
-            _ => self.call_text(call),
+            _ => self.texts.call(call),
         }
-    }
-
-    /// Reads a table or a quirks list, or a page by them, or looks a key up.
-    fn call_text(&mut self, call: &Call) -> Result<bool, Refusal> {
-        let alloc = self.hand.alloc;
-        let options = Options::new(&self.table, &self.quirks, Keys::for_tests());
-        match call.word(0) {
-            "table" => self.table = made::table(alloc, call.number(3))?,
-            "quirks" => self.quirks = made::quirks(alloc, call.number(3))?,
-            "key" => return made::has_key(alloc, &self.table, call.turn),
-            "page" => return page::is_so(alloc, &options, call),
-            "tokens" => return page::has_tokens(alloc, &options, call.after(3)),
-            _ => return made::has_no_errors(alloc),
-        }
-        Ok(true)
     }
 }

@@ -15,7 +15,7 @@ pub fn call(stack: &mut OpenStack, hand: &mut Hand, call: &Call) -> Result<bool,
         word => change(stack, hand, word, turn)?,
     }
     Ok(match stack.from_top(0) {
-        Some(top) => is_found(stack, top) && has_ends(stack),
+        Some(top) => is_found(stack, top),
         None => stack.len() == 0,
     })
 }
@@ -46,7 +46,7 @@ fn change(stack: &mut OpenStack, hand: &mut Hand, word: &str, turn: usize) -> Re
     Ok(())
 }
 
-/// What is asked of the topmost node, and of its name, which no other has.
+/// What is asked of the topmost node, of its name, which no other has, and of all.
 fn is_found(stack: &OpenStack, top: Open) -> bool {
     stack.contains(top.node)
         && stack.above(top.node).is_none()
@@ -55,11 +55,7 @@ fn is_found(stack: &OpenStack, top: Open) -> bool {
         && stack.before_special(top.name)
         && stack.item_is_near(top.name)
         && stack.nearest(top.name).is_some()
-}
-
-/// What is asked of all.
-fn has_ends(stack: &OpenStack) -> bool {
-    stack.current().is_some()
+        && stack.current().is_some()
         && stack.all_may_stay_open() == (stack.len() == 1)
         && !stack.group_in_scope(Scope::Default, Group::Heading)
         && stack.nearest_below_first(Group::TellsMode).is_none()

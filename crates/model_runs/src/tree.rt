@@ -8,38 +8,36 @@ use hnodes::{DocumentType, NodeId, Place, Tree};
 use hwrite::{Escaping, serialize_to_vec, tree_text};
 use names::Refusal;
 
-/// Makes a call.
+/// Makes a call. Whether all is as it should be after it.
 pub fn call(hand: &mut Hand, call: &Call) -> Result<bool, Refusal> {
-    let last = hand.tree.made() as usize - 1;
+    let (node, last) = (hand.node(1), hand.tree.made() as usize - 1);
     match call.word(1) {
         "new" => hand.tree = Tree::new(hand.alloc, call.number(3).clamp(1, 1 << 24) as u32)?,
         "fill" => return grow(hand, 0),
         "nest" => return grow(hand, last),
-        "element" => make_wide(hand, call.turn)?,
+        "element" => {
+            let name = hand.name(call.turn)?;
+            let attrs = hand.attrs(call.turn, 0)?;
+            hand.tree.create_element(name, attrs, PLACE)?;
+        }
         "doctype" => make_doctype(hand)?,
-        "append" | "move" => return Ok(move_nodes(&mut hand.tree, call)),
-        word => return call_of_node(hand, word, call.turn),
+        "append" | "move" => return Ok(move_nodes(hand, call)),
+        "attr" | "missing" => return add(hand, node, call),
+        "nodes" => return has_nodes(hand, node),
+        "char" => hand.tree.put_char('c', Place::LastIn(node), PLACE)?,
+        "text" => hand.tree.put_text("text", Place::LastIn(node), PLACE)?,
+        _ => return is_written(hand, node),
     }
     Ok(true)
 }
 
-/// Makes a comment below a node, if there is one. Whether it is its last child.
+/// Makes a comment below a node. Whether it is its last child.
 fn grow(hand: &mut Hand, parent: usize) -> Result<bool, Refusal> {
+    let parent = hand.node(parent);
     let tree = &mut hand.tree;
-    let Some(parent) = tree.node(parent) else {
-        return Ok(false);
-    };
     let child = tree.create_comment(String::from_str(hand.alloc, "text")?, PLACE)?;
     tree.append(child, parent);
     Ok(tree.last_child(parent) == Some(child))
-}
-
-/// Makes an element with so many attributes.
-fn make_wide(hand: &mut Hand, width: usize) -> Result<(), Refusal> {
-    let name = hand.name(width)?;
-    let attrs = hand.attrs(width, 0)?;
-    hand.tree.create_element(name, attrs, PLACE)?;
-    Ok(())
 }
 
 fn make_doctype(hand: &mut Hand) -> Result<(), Refusal> {
@@ -53,11 +51,10 @@ fn make_doctype(hand: &mut Hand) -> Result<(), Refusal> {
     Ok(())
 }
 
-/// Moves a node, or the children of one. Whether there are such nodes, and it may be.
-fn move_nodes(tree: &mut Tree, call: &Call) -> bool {
-    let (Some(node), Some(to)) = (tree.node(call.number(3)), tree.node(call.number(4))) else {
-        return false;
-    };
+/// Moves a node, or the children of one. Whether it may be.
+fn move_nodes(hand: &mut Hand, call: &Call) -> bool {
+    let (node, to) = (hand.node(call.number(3)), hand.node(call.number(4)));
+    let tree = &mut hand.tree;
     if tree.is_inside(to, node) {
         return false;
     }
@@ -69,33 +66,17 @@ fn move_nodes(tree: &mut Tree, call: &Call) -> bool {
     true
 }
 
-/// Makes a call of node 1, if it is there.
-fn call_of_node(hand: &mut Hand, word: &str, turn: usize) -> Result<bool, Refusal> {
-    let Some(node) = hand.tree.node(1) else {
-        return Ok(false);
-    };
-    match word {
-        "attr" => {
-            let attr = hand.attr(turn, 1)?;
-            hand.tree.add_attr(node, attr)?;
-        }
-        "missing" => return add_missing(hand, node, turn),
-        "nodes" => return has_nodes(hand, node),
-        "char" => hand.tree.put_char('c', Place::LastIn(node), PLACE)?,
-        "text" => hand.tree.put_text("text", Place::LastIn(node), PLACE)?,
-        _ => return is_written(hand, node),
-    }
-    Ok(true)
-}
-
-/// Gives a node an attribute that it may have. Whether it has as many as names were given.
-fn add_missing(hand: &mut Hand, node: NodeId, turn: usize) -> Result<bool, Refusal>
+/// Gives a node an attribute that it has not, or may have. Whether it has as many as names were given.
+fn add(hand: &mut Hand, node: NodeId, call: &Call) -> Result<bool, Refusal>
     requires { node < hand.old.tree.made }
 {
-    let attr = hand.attr(turn, 1)?;
-    hand.tree.add_missing_attr(node, attr)?;
+    let attr = hand.attr(call.turn, 1)?;
+    match call.word(1) {
+        "attr" => hand.tree.add_attr(node, attr)?,
+        _ => hand.tree.add_missing_attr(node, attr)?,
+    }
     let attrs = hand.tree.attrs(node);
-    Ok(attrs.is_some_and(|attrs| turn < attrs.len()))
+    Ok(attrs.is_some_and(|attrs| call.turn < attrs.len()))
 }
 
 /// Whether what is in a node is written, as HTML and as a printed tree.
