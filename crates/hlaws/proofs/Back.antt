@@ -1,11 +1,11 @@
 -- Plain trees come back, where what is written of them is read as their own tokens.
-use Rattle.hlaws.proofs.Names.{◌≡◌, ℕ, ◌+◌, Bool, true, false, List, [], ◌∷◌, ◌++◌, map, Some, refl, sym, ◌∙◌, ap, subst, arith, ◌⊎◌, inl, inr, ne_eqb, false≢true, Forest, none, tree, size, children_of, join-none, raw_kind, tag_named, tag_text, Tag, Tok, texts, Goes, Mode, InBody, InCaption, InCell, InTable, InTableBody, InRow, fragment_begins, rule_of, perform, PlacedToken, State, eof, Done, Rule, step_begun, ends, Step, goes, Steps, and, Content, Escaping, BuildsForest, fits_mode, fits_current, is_flow_mode, numbered_forest, AreTexts, AreRead, PlainTokens, ParseOptions, fragment, is_context, token_placed, token_taken, row, texts_in, Inside, are_content, are_content_if, in_context_of, is_form_element, plain_tokens, IsQuiet, stack, erased, node, context_mode, Keep, FitsForest, GivesForest, PlainComesBack, written, not, ◌&&◌, ◌||◌, nat_le, bytes_eq, codes, is_refused, tags, length, is_plain, is_context_name}
+use Rattle.hlaws.proofs.Names.{trees, ActsAs, ◌≡◌, ℕ, ◌+◌, Bool, true, false, List, [], ◌∷◌, ◌++◌, map, Some, refl, sym, ◌∙◌, ap, arith, ◌⊎◌, inl, inr, ne_eqb, false≢true, Forest, none, tree, size, children_of, join-none, raw_kind, tag_named, tag_text, Tag, Tok, texts, Goes, Mode, InBody, InCaption, InCell, InTable, InTableBody, InRow, fragment_begins, rule_of, perform, State, eof, Done, Rule, step_begun, ends, goes, Content, Escaping, fits_mode, fits_current, is_flow_mode, numbered_forest, AreTexts, AreRead, PlainTokens, ParseOptions, fragment, is_context, token_placed, token_taken, row, texts_in, Inside, are_content, are_content_if, in_context_of, is_form_element, plain_tokens, IsQuiet, stack, erased, node, context_mode, Keep, FitsForest, GivesForest, PlainComesBack, written, not, ◌&&◌, ◌||◌, nat_le, bytes_eq, codes, is_refused, tags, length, is_plain, is_context_name}
 use Rattle.names.specs.declared.tag.Tag.TheVariants as tag
 use Rattle.hmodes.specs.declared.token_kind.TokenKind.TheVariants.{Eof}
-use Rattle.hmodes.specs.Step as step
 use Rattle.hserialize.specs.declared.content.Content.TheVariants as content
 use Rattle.hserialize.specs.declared.content.Texts.TheVariants as allowed
-use Rattle.hlaws.proofs.TokenLists.{AreTokens, parted, first, after, ended}
+use Rattle.hlaws.proofs.TokenLists.{AreTokens, Led, Leads, no_token, token_then, tokens_then}
+use Rattle.hlaws.specs.Building.{IsBuiltForest}
 use Rattle.hlaws.proofs.Content.{own_mode}
 use Rattle.hlaws.proofs.Accepted.{accepts}
 use Rattle.hlaws.proofs.PlainBuilds.{law}
@@ -110,19 +110,16 @@ module _ (opts : ParseOptions) (escaping : Escaping) (context : List ℕ) (allow
   from_inside inside m cur t form ending plain =
       let q = begins inside m cur t form in
       let tokens_are : AreTokens (map token_placed read.toks) (plain_tokens texts l ++ eof ∷ []) = placed_token read.toks ∙ read.are in
-      let p = parted (map token_placed read.toks) (plain_tokens texts l) (eof ∷ []) tokens_are in
-      let e = first p.back eof [] p.backs in
-      let b : BuildsForest texts l 1 p.front start_state = law inside l start_state p.front q utf8 plain
+      let begun : Leads texts (plain_tokens texts l) start_state (λ v. (acted : State (List ℕ)) × ActsAs texts v acted × IsBuiltForest texts l 1 start_state acted) =
+      λ ts h. let b = law inside l start_state ts q utf8 plain
       (record { text = λ h. refl; line_feed = λ h. absurd cc })
-      (record { nodes = let n = fits.nodes in omega arith; open_nodes = let o = fits.open_nodes in omega arith }) p.fronts in
-      let opened : stack b.acted.site ≡ stack start_state.site = ap (λ o. o.stack) b.built.open_same in
-      let ending_step : Step texts e.at eof b.reached (Goes (step_begun b.acted)) = goes refl (b.acts e.at eof (Goes (step_begun b.acted)) refl (ends (at_end e.at b.acted opened (ap ends_body b.built.mode ∙ ending)))) in
-      let whole : Steps texts (p.front ++ record { token = eof; at = e.at } ∷ []) start_state (Goes (step_begun b.acted)) = after b.steps (and ending_step step.none) in
-      let listed : map token_placed read.toks ≡ p.front ++ record { token = eof; at = e.at } ∷ [] = p.is ∙ ap (λ ts. p.front ++ ts) (e.is ∙ ap (λ ts. record { token = eof; at = e.at } ∷ ts) (ended e.others e.rest)) in
-      let steps = subst (λ (ts : List (PlacedToken (List ℕ))). Steps texts ts start_state (Goes (step_begun b.acted))) (sym listed) whole in
-      let done = accepts opts (fragment context) (written escaping (Some context) l) read.toks read.errors (step_begun b.acted) read.utf8 fits.input read.read steps in
-      let built = ap (λ f. erased (children_of 1 f)) b.built.trees_are ∙ ap erased (join-none (numbered_forest 2 l)) ∙ erased-numbered 2 l in
-      record { allowed = allowed_here; parse = done.parse; parses = done.parses; children = ap (λ f. erased (children_of 1 f)) done.trees ∙ built }
+      (record { nodes = let n = fits.nodes in omega arith; open_nodes = let o = fits.open_nodes in omega arith }) h in record { reached = b.reached; steps = b.steps; there = (b.acted, b.acts, b.built) } in
+      let ended : Led texts start_state (λ v. (acted : State (List ℕ)) × (v ≡ step_begun acted) × IsBuiltForest texts l 1 start_state acted) (map token_placed read.toks) =
+      tokens_then begun (λ v b. let acted = b.0 in token_then (λ at. (step_begun acted, goes refl (b.1 at eof (Goes (step_begun acted)) refl (ends (at_end at acted (ap (λ o. o.stack) b.2.open_same) (ap ends_body b.2.mode ∙ ending)))), no_token (acted, refl, b.2))))
+      (map token_placed read.toks) tokens_are in
+      let done = accepts opts (fragment context) (written escaping (Some context) l) read.toks read.errors ended.reached read.utf8 fits.input read.read ended.steps in
+      let built = ap (λ f. erased (children_of 1 f)) ended.there.2.trees_are ∙ ap erased (join-none (numbered_forest 2 l)) ∙ erased-numbered 2 l in
+      record { allowed = allowed_here; parse = done.parse; parses = done.parses; children = ap (λ f. erased (children_of 1 f)) (done.trees ∙ ap (λ v. trees v.site) ended.there.1) ∙ built }
 
   comes : (k : Content) → (row (tag_named context)).1 ≡ k → are_content_if (in_context_of k (is_form_element (tag_named context))) l ≡ true → GivesForest opts context (written escaping (Some context) l) l
   comes k e h = go k (ap (λ c. mode_ok c mode) (sym e) ∙ context_ok (tag_named context)) h

@@ -4,7 +4,7 @@ use Rattle.hlaws.specs.Building as spec
 use Rattle.hlaws.proofs.FromTable.{good, lf_safe}
 use Rattle.hlaws.proofs.NamesAsTexts.{text_laws}
 use Rattle.hlaws.proofs.Rules.{state}
-use Rattle.hlaws.proofs.Whole.{Quiet, LfSafe, builds, Built}
+use Rattle.hlaws.proofs.Whole.{Quiet, LfSafe, builds}
 
 dropping : (v : Bool) (l : Forest (List ℕ)) → (v ≡ true → begins_with_line_feed l ≡ false) → LfSafe v l
 dropping false l h = lf_safe false l refl
@@ -25,15 +25,15 @@ law inside l s ts q utf8 plain well room h = subst (λ (v : State (List ℕ)). B
     deep : suc (length q.up) + spec.depth l ≤ s.site.open_nodes.limit
     deep = let e = ap length q.stack_is in let r = room.open_nodes in omega arith
 
-    built : Built texts text_laws s l s.site.nodes.made (trees s.site) q.current q.up s.site.items s.control literal ts
-    built = builds texts text_laws s l inside s.site.nodes.made (trees s.site) q.current q.up s.site.items s.control literal ts
-        quiet (good inside l q.texts_fit utf8 plain) (λ at t o e chain. chain) (λ e. refl) well.text (dropping s.control.drop_lf l well.line_feed) room.nodes deep h
-
     at_literal : BuildsForest texts l q.current.node ts literal
-    at_literal = record {
-      reached = built.reached;
-      acted = state s (s.site.nodes.made + size l) (spec.under q.current.node (spec.numbered_forest s.site.nodes.made l) (trees s.site)) (q.current ∷ q.up) built.items' built.control';
-      steps = built.steps;
-      acts = built.acts;
-      built = let keeps = built.keeps in let thinned = built.thinned in search rules;
-    }
+    at_literal =
+        let built = builds texts text_laws s l inside s.site.nodes.made (trees s.site) q.current q.up s.site.items s.control literal
+        quiet (good inside l q.texts_fit utf8 plain) (λ at t o e chain. chain) (λ e. refl) well.text (dropping s.control.drop_lf l well.line_feed) room.nodes deep ts h in
+        let k = built.there in
+        record {
+          reached = built.reached;
+          acted = state s (s.site.nodes.made + size l) (spec.under q.current.node (spec.numbered_forest s.site.nodes.made l) (trees s.site)) (q.current ∷ q.up) k.items' k.control';
+          steps = built.steps;
+          acts = k.acts;
+          built = let keeps = k.keeps in let thinned = k.thinned in search rules;
+        }

@@ -1,5 +1,5 @@
 -- Tokens with their places, and what the law of building asks of texts.
-use Rattle.hlaws.proofs.Names.{list_all, ◌≡◌, ℕ, Bool, true, false, List, [], ◌∷◌, ◌++◌, map, refl, ◌∙◌, ap, encode_utf8_all, chars, text, Forest, tree, Naming, Goes, Token, PlacedToken, State, Steps, and, heads, tails}
+use Rattle.hlaws.proofs.Names.{list_all, ◌≡◌, ℕ, Bool, true, false, List, [], ◌∷◌, ◌++◌, map, refl, sym, ap, subst, encode_utf8_all, chars, text, Forest, tree, Naming, Goes, Token, PlacedToken, State, Step, Steps, and, heads, tails}
 use Rattle.hlaws.proofs.TokensText.{is_clean_char}
 use Rattle.hmodes.specs.Step as step
 
@@ -8,40 +8,58 @@ abbrev pub AreTokens : {N : Type 0} → List (PlacedToken N) → List (Token N) 
 AreTokens ts us = map (λ t. t.token) ts ≡ us
 
 -- the tokens of a list that is two lists
-pub record Parted {N : Type 0} (ts : List (PlacedToken N)) (us vs : List (Token N)) : Type 0 where
+record Parted {N : Type 0} (ts : List (PlacedToken N)) (us vs : List (Token N)) : Type 0 where
   pub front : List (PlacedToken N)
   pub back : List (PlacedToken N)
   pub is : ts ≡ front ++ back
   pub fronts : AreTokens front us
   pub backs : AreTokens back vs
 
-pub record First {N : Type 0} (ts : List (PlacedToken N)) (u : Token N) (us : List (Token N)) : Type 0 where
-  pub at : ℕ
-  pub others : List (PlacedToken N)
-  pub is : ts ≡ record { token = u; at = at } ∷ others
-  pub rest : AreTokens others us
+parted : {N : Type 0} (ts : List (PlacedToken N)) (us vs : List (Token N)) → AreTokens ts (us ++ vs) → Parted ts us vs
+parted ts [] vs h = record { front = []; back = ts; is = refl; fronts = refl; backs = h }
+parted [] (u ∷ us) vs h = absurd cc
+parted (t ∷ ts) (u ∷ us) vs h =
+    let all = map (λ t. t.token) ts in
+    let p = parted ts us vs (tails t.token u all (us ++ vs) h) in
+    record { front = t ∷ p.front; back = p.back; is = ap (λ l. t ∷ l) p.is; fronts = λ i. heads t.token u all (us ++ vs) h i ∷ p.fronts i; backs = p.backs }
 
-module _ {N : Type 0} where
-  pub ended : (us : List (PlacedToken N)) → AreTokens us [] → us ≡ []
-  ended [] e = refl
-  ended (u ∷ us) e = absurd cc
+-- Placed tokens lead from a state to one of which P is true.
+pub record Led {N : Type 0} (n : Naming N) (s : State N) (P : State N → Type 0) (ts : List (PlacedToken N)) : Type 0 where
+  pub reached : State N
+  pub steps : Steps n ts s (Goes reached)
+  pub there : P reached
 
-  pub first : (ts : List (PlacedToken N)) (u : Token N) (us : List (Token N)) → AreTokens ts (u ∷ us) → First ts u us
-  first [] u us h = absurd cc
-  first (t ∷ ts) u us h =
-      let all : List (Token N) = map (λ t. t.token) ts in
-      record { at = t.at; others = ts; is = ap (λ v. record { token = v; at = t.at } ∷ ts) (heads t.token u all us h); rest = tails t.token u all us h }
+module _ {N : Type 0} (n : Naming N) where
+  -- tokens do, wherever they stand
+  abbrev pub Leads : List (Token N) → State N → (State N → Type 0) → Type 0
+  Leads us s P = (ts : List (PlacedToken N)) → AreTokens ts us → Led n s P ts
 
-  pub parted : (ts : List (PlacedToken N)) (us vs : List (Token N)) → AreTokens ts (us ++ vs) → Parted ts us vs
-  parted ts [] vs h = record { front = []; back = ts; is = refl; fronts = refl; backs = h }
-  parted ts (u ∷ us) vs h =
-      let f = first ts u (us ++ vs) h in
-      let p = parted f.others us vs f.rest in
-      record { front = record { token = u; at = f.at } ∷ p.front; back = p.back; is = f.is ∙ ap (λ l. record { token = u; at = f.at } ∷ l) p.is; fronts = ap (λ l. u ∷ l) p.fronts; backs = p.backs }
-
-  pub after : {n : Naming N} {ts us : List (PlacedToken N)} {s s' s'' : State N} → Steps n ts s (Goes s') → Steps n us s' (Goes s'') → Steps n (ts ++ us) s (Goes s'')
+module _ {N : Type 0} {n : Naming N} where
+  after : {ts us : List (PlacedToken N)} {s s' s'' : State N} → Steps n ts s (Goes s') → Steps n us s' (Goes s'') → Steps n (ts ++ us) s (Goes s'')
   after step.none b = b
   after (and x a) b = and x (after a b)
+
+  pub no_token : {s : State N} {P : State N → Type 0} → P s → Leads n [] s P
+  no_token here [] h = record { reached = _; steps = step.none; there = here }
+  no_token here (t ∷ ts) h = absurd cc
+
+  pub token_then : {t : Token N} {us : List (Token N)} {s : State N} {P : State N → Type 0} → ((at : ℕ) → (s' : State N) × Step n at t s (Goes s') × Leads n us s' P) → Leads n (t ∷ us) s P
+  token_then leads [] h = absurd cc
+  token_then {t} {us} {s} leads (u ∷ ts) h =
+      let all = map (λ t. t.token) ts in
+      let first = leads u.at in
+      let rest = first.2 ts (tails u.token t all us h) in
+      record { reached = rest.reached; steps = and (subst (λ (v : Token N). Step n u.at v s (Goes first.0)) (sym (heads u.token t all us h)) first.1) rest.steps; there = rest.there }
+
+  pub tokens_then : {us vs : List (Token N)} {s : State N} {P Q : State N → Type 0} → Leads n us s P → ((s' : State N) → P s' → Leads n vs s' Q) → Leads n (us ++ vs) s Q
+  tokens_then {us} {vs} {s} first rest ts h =
+      let p = parted ts us vs h in
+      let a = first p.front p.fronts in
+      let b = rest a.reached a.there p.back p.backs in
+      record { reached = b.reached; steps = subst (λ (ts : List (PlacedToken N)). Steps n ts s (Goes b.reached)) (sym p.is) (after a.steps b.steps); there = b.there }
+
+  pub so : {us : List (Token N)} {s : State N} {P Q : State N → Type 0} → Leads n us s P → ((s' : State N) → P s' → Q s') → Leads n us s Q
+  so leads weaker ts h = let k = leads ts h in record { reached = k.reached; steps = k.steps; there = weaker k.reached k.there }
 
 -- a text of characters other than NUL and CR, one at least
 pub record IsText (t : List ℕ) : Type 0 where

@@ -1,10 +1,9 @@
 -- The tokens of a plain list of trees build it under the current node.
-use Rattle.hlaws.proofs.Names.{◌≡◌, ℕ, suc, ◌+◌, ◌<◌, ◌≤◌, Bool, true, false, not, ◌&&◌, ◌||◌, List, [], ◌∷◌, ◌++◌, length, map, Option, Some, None, refl, sym, ◌∙◌, ap, subst, arith, and_parts, or_parts, and_right, eq-eqb, lt-leb, false≢true, not-true, nat_le, encode_utf8, encode_utf8_all, chars, ◌==◌, list_all, Attribute, What, element, text, Forest, none, tree, size, times, graft_last, join, if_text, text_before, LastIn, OpenNode, in_scope, stops_in_scope, stops_item, EntryOf, Listed, marker, entry, with_room, without_entry, entry_of, find_entry, cleared, Placed, is_space, is_void, is_heading, has_implied_end, stops_button_scope, Naming, Goes, is, is_table_context, is_body_context, is_row_context, is_fostering, Family, Start, End, Mode, InCaption, InCell, Text, InTable, InTableText, InTableBody, InRow, InColumnGroup, family_of, rule_of, perform, void, raw, void_in_text, Token, start, end, comment, character, PlacedToken, Control, State, Done, kind_of, reset_mode, Rule, step_begun, ends, goes_again, Step, goes, Steps, and, Content, Role, row, takes_role, takes_comments, texts_in, Inside, inside_element, is_nested, is_a, is_button, is_form_element, drops_line_feed, inserts_marker, is_flow_mode, fits_mode, fits_current, holds_list_items, is_dl, takes_space, numbered_forest, under, Thinned, same, kept, lost, EntriesOpen, EntriesLower, plain_tokens, append-nil, append_assoc, unwrap_or, content_within, reconstructed, block, close_block, end_item, Do, closes_p, is_character_token, ActsAs, depth, AllLower, list_all-map, inl}
+use Rattle.hlaws.proofs.Names.{◌≡◌, ℕ, suc, ◌+◌, ◌<◌, ◌≤◌, Bool, true, false, not, ◌&&◌, ◌||◌, List, [], ◌∷◌, ◌++◌, length, map, Option, Some, None, refl, sym, ◌∙◌, ap, subst, arith, and_parts, or_parts, and_right, eq-eqb, lt-leb, false≢true, not-true, nat_le, encode_utf8, encode_utf8_all, chars, ◌==◌, list_all, Attribute, What, element, text, Forest, none, tree, size, times, graft_last, join, if_text, text_before, LastIn, OpenNode, in_scope, stops_in_scope, stops_item, EntryOf, Listed, marker, entry, with_room, without_entry, entry_of, find_entry, cleared, Placed, is_space, is_void, is_heading, has_implied_end, stops_button_scope, Naming, Goes, is, is_table_context, is_body_context, is_row_context, is_fostering, Family, Start, End, Mode, InCaption, InCell, Text, InTable, InTableText, InTableBody, InRow, InColumnGroup, family_of, rule_of, perform, void, raw, void_in_text, Token, start, end, comment, character, Control, State, Done, kind_of, reset_mode, Rule, step_begun, ends, goes_again, Step, goes, Content, Role, row, takes_role, takes_comments, texts_in, Inside, inside_element, is_nested, is_a, is_button, is_form_element, drops_line_feed, inserts_marker, is_flow_mode, fits_mode, fits_current, holds_list_items, is_dl, takes_space, numbered_forest, under, Thinned, same, kept, lost, EntriesOpen, EntriesLower, plain_tokens, append-nil, append_assoc, unwrap_or, content_within, reconstructed, block, close_block, end_item, Do, closes_p, is_character_token, ActsAs, depth, AllLower, list_all-map, inl}
 use Rattle.hnodes.specs.Forest as forest
 use Rattle.hopen.specs.declared.scope.Scope.TheVariants as scope
 use Rattle.names.specs.declared.tag.Tag.TheVariants as tag
 use Rattle.hmodes.specs.declared.family.Family.TheVariants as family
-use Rattle.hmodes.specs.Step as step
 use Rattle.hserialize.specs.declared.content.Content.TheVariants as content
 use Rattle.hserialize.specs.declared.content.Role.TheVariants as role
 use Rattle.hlaws.proofs.Growing.{graft-new, under-none, under-new, once-grown, free-grown, once-new, rest-grown, times-numbered, text_before-new, text_before-leaf}
@@ -13,7 +12,7 @@ use Rattle.hlaws.proofs.Classes.{Profile, profile, plain_profile, around, class_
 use Rattle.hlaws.proofs.Content.{home, has_home, stands_in, no_nowhere, phrasing_mode, own_mode, comment_rule, around_fits, name_facts}
 use Rattle.hlaws.proofs.Rules as rules
 use Rattle.hlaws.proofs.Rules.{IsFlowRule, by_start, by_end, state, node}
-use Rattle.hlaws.proofs.TokenLists.{AreTokens, first, parted, after, ended, IsText, begins_text}
+use Rattle.hlaws.proofs.TokenLists.{Leads, no_token, token_then, tokens_then, so, IsText, begins_text}
 use Rattle.hlaws.proofs.TokensText.{is_clean_char}
 
 -- WHAT IS USED OF A KIND OF NAMES
@@ -53,9 +52,6 @@ pub record Keeps (c c' : Control) : Type 0 where
 
 keeps-then : {a b c : Control} → Keeps a b → Keeps b c → Keeps a c
 keeps-then k l = record { mode = l.mode ∙ k.mode; head = l.head ∙ k.head; form = l.form ∙ k.form; quirks = l.quirks ∙ k.quirks }
-
-keeps-all : (c : Control) → Keeps c c
-keeps-all c = record { mode = refl; head = refl; form = refl; quirks = refl }
 
 abbrev pub begun_control : Control → Control
 begun_control c = record c { drop_lf = false; acknowledged = false }
@@ -119,9 +115,8 @@ module _ {N : Type 0} (n : Naming N) where
   Good i _ = ⊥
 
   -- the tokens of an element that is not void, and of the list after it
-  pub mapped : (b : ℕ) (x : N) (attrs : List (Attribute N)) (kids rest : Forest N) (ts : List (PlacedToken N)) → is_void (n.tag x) ≡ false → AreTokens ts (plain_tokens n (tree b (element x attrs) kids rest))
-      → AreTokens ts ((start x attrs false ∷ plain_tokens n kids ++ end x ∷ []) ++ plain_tokens n rest)
-  mapped b x attrs kids rest ts no_void h = h ∙ (rw no_void refl) ∙ ap (λ us. start x attrs false ∷ us) (sym (append_assoc (plain_tokens n kids) (end x ∷ []) (plain_tokens n rest)))
+  pub mapped : (b : ℕ) (x : N) (attrs : List (Attribute N)) (kids rest : Forest N) → is_void (n.tag x) ≡ false → plain_tokens n (tree b (element x attrs) kids rest) ≡ (start x attrs false ∷ plain_tokens n kids ++ end x ∷ []) ++ plain_tokens n rest
+  mapped b x attrs kids rest no_void = (rw no_void refl) ∙ ap (λ us. start x attrs false ∷ us) (sym (append_assoc (plain_tokens n kids) (end x ∷ []) (plain_tokens n rest)))
 
   pub record Quiet (context : Option N) (i : Inside) (made : ℕ) (f : Forest N) (d : OpenNode N) (up : List (OpenNode N)) (items : List (Listed N)) (c : Control) : Type 0 where
     pub mode_is : reset_mode n context (d ∷ up) ≡ c.mode
@@ -146,21 +141,19 @@ module _ {N : Type 0} (n : Naming N) where
     current_in = ap (λ u. fits_current u i.texts (n.tag d.name)) (sym e) ∙ q.current_fits
 
 module _ {N : Type 0} (n : Naming N) (laws : NameLaws n) (z : State N) where
-  -- from one state that acts as quiet to another
-  pub record Built (l : Forest N) (made : ℕ) (f : Forest N) (d : OpenNode N) (up : List (OpenNode N)) (items : List (Listed N)) (c : Control) (s : State N) (ts : List (PlacedToken N)) : Type 0 where
+  -- a state that acts as the quiet one after a list
+  pub record Built (l : Forest N) (made : ℕ) (f : Forest N) (d : OpenNode N) (up : List (OpenNode N)) (items : List (Listed N)) (c : Control) (s : State N) : Type 0 where
     pub items' : List (Listed N)
     pub control' : Control
-    pub reached : State N
-    pub steps : Steps n ts s (Goes reached)
-    pub acts : ActsAs n reached (state z (made + size l) (under d.node (numbered_forest made l) f) (d ∷ up) items' control')
+    pub acts : ActsAs n s (state z (made + size l) (under d.node (numbered_forest made l) f) (d ∷ up) items' control')
     pub thinned : Thinned items items'
     pub keeps : Keeps c control'
 
-  -- the same of a node, after which the state is quiet, unless white space waits
-  pub record NodeBuilt (b : ℕ) (w : What N) (kids : Forest N) (made : ℕ) (f : Forest N) (d : OpenNode N) (up : List (OpenNode N)) (items : List (Listed N)) (c : Control) (s : State N) (ts : List (PlacedToken N)) : Type 0 where
-    pub built : Built (tree b w kids none) made f d up items c s ts
+  -- the same after a node: it is the quiet one, unless white space waits
+  pub record NodeBuilt (b : ℕ) (w : What N) (kids : Forest N) (made : ℕ) (f : Forest N) (d : OpenNode N) (up : List (OpenNode N)) (items : List (Listed N)) (c : Control) (s : State N) : Type 0 where
+    pub built : Built (tree b w kids none) made f d up items c s
     pub no_drop : built.control'.drop_lf ≡ false
-    pub exact : is_text w ≡ false → built.reached ≡ state z (made + (1 + (size kids + 0))) (under d.node (numbered_forest made (tree b w kids none)) f) (d ∷ up) built.items' built.control'
+    pub exact : is_text w ≡ false → s ≡ state z (made + (1 + (size kids + 0))) (under d.node (numbered_forest made (tree b w kids none)) f) (d ∷ up) built.items' built.control'
 
   later : (i : Inside) (l : Forest N) (made : ℕ) (f : Forest N) (d : OpenNode N) (up : List (OpenNode N)) (items items' : List (Listed N)) (c c' : Control)
       → Quiet n z.context i made f d up items c → Thinned items items' → Keeps c c' → Quiet n z.context i (made + size l) (under d.node (numbered_forest made l) f) d up items' c'
@@ -183,9 +176,6 @@ module _ {N : Type 0} (n : Naming N) (laws : NameLaws n) (z : State N) where
 
   -- TOKENS FROM A STATE THAT ACTS AS ANOTHER
 
-  start_step : {at : ℕ} {x : N} {attrs : List (Attribute N)} {s s' : State N} (q : State N) → ActsAs n s q → Rule n at (start x attrs false) (step_begun q) ≡ Done s' → Step n at (start x attrs false) s (Goes s')
-  start_step {at} {x} {attrs} {s' = s'} q acts rule = goes refl (acts at (start x attrs false) (Goes s') refl (ends rule))
-
   char_step : {at ch : ℕ} {s s' : State N} → (s.control.drop_lf && ch == 10) ≡ false → Rule n at (character ch) (step_begun s) ≡ Done s' → Step n at (character ch) s (Goes s')
   char_step stays rule = goes stays (ends rule)
 
@@ -193,87 +183,55 @@ module _ {N : Type 0} (n : Naming N) (laws : NameLaws n) (z : State N) where
   itself s at t o h chain = chain
 
   -- a node after which the state stands as the law says
-  as_it_stands : {b : ℕ} {w : What N} {kids : Forest N} {made : ℕ} {f : Forest N} {d : OpenNode N} {up : List (OpenNode N)} {items items' : List (Listed N)} {c c' : Control} {s : State N} {ts us : List (PlacedToken N)} → ts ≡ us
-      → Steps n us s (Goes (state z (made + (1 + (size kids + 0))) (under d.node (numbered_forest made (tree b w kids none)) f) (d ∷ up) items' c')) → Thinned items items' → Keeps c c' → c'.drop_lf ≡ false → NodeBuilt b w kids made f d up items c s ts
-  as_it_stands {b} {w} {kids} {made} {f} {d} {up} {items' = items'} {c' = c'} {s = s} is steps t k drop =
-      let s1 : State N = state z (made + (1 + (size kids + 0))) (under d.node (numbered_forest made (tree b w kids none)) f) (d ∷ up) items' c' in
-      record {
-        built = record { items' = items'; control' = c'; reached = s1; steps = subst (λ (us : List (PlacedToken N)). Steps n us s (Goes s1)) (sym is) steps; acts = itself s1; thinned = t; keeps = k };
-        no_drop = drop;
-        exact = λ e. refl;
-      }
+  as_it_stands : {b : ℕ} {w : What N} {kids : Forest N} {made : ℕ} {f : Forest N} {d : OpenNode N} {up : List (OpenNode N)} {items items' : List (Listed N)} {c c' : Control} → Thinned items items' → Keeps c c' → c'.drop_lf ≡ false
+      → NodeBuilt b w kids made f d up items c (state z (made + (1 + (size kids + 0))) (under d.node (numbered_forest made (tree b w kids none)) f) (d ∷ up) items' c')
+  as_it_stands {items' = items'} {c' = c'} t k drop = record { built = record { items' = items'; control' = c'; acts = λ at t o e chain. chain; thinned = t; keeps = k }; no_drop = drop; exact = λ e. refl }
 
   -- COMMENTS
 
-  comment_built : {i : Inside} {b : ℕ} {t : List ℕ} {made : ℕ} {f : Forest N} {d : OpenNode N} {up : List (OpenNode N)} {items : List (Listed N)} {c : Control} {s : State N} {ts : List (PlacedToken N)}
-      → Quiet n z.context i made f d up items c → ActsAs n s (state z made f (d ∷ up) items c) → made < z.site.nodes.limit → AreTokens ts (comment t ∷ []) → NodeBuilt b (forest.comment t) none made f d up items c s ts
-  comment_built {i} {t = t} {made} {f} {d} {up} {items} {c} {s} {ts} q acts room h =
-      let p = first ts (comment t) [] h in
+  comment_built : {i : Inside} {b : ℕ} {t : List ℕ} {made : ℕ} {f : Forest N} {d : OpenNode N} {up : List (OpenNode N)} {items : List (Listed N)} {c : Control} {s : State N} → Quiet n z.context i made f d up items c
+      → ActsAs n s (state z made f (d ∷ up) items c) → made < z.site.nodes.limit → Leads n (comment t ∷ []) s (NodeBuilt b (forest.comment t) none made f d up items c)
+  comment_built {i} {b} {t} {made} {f} {d} {up} {items} {c} {s} q acts room =
       let full : nat_le z.site.nodes.limit made ≡ false = lt-leb z.site.nodes.limit made room in
       let s0 : State N = state z made f (d ∷ up) items (begun_control c) in
       let s1 : State N = state z (made + 1) (under d.node (tree made (forest.comment t) none none) f) (d ∷ up) items (begun_control c) in
-      let rule : Rule n p.at (comment t) s0 ≡ Done s1 =
-      ap (λ r. perform n p.at (comment t) r s0) (comment_rule i.content c.mode q.mode_fits) ∙ simp (full, graft-new d.node made (forest.comment t) f (q.fresh made (omega arith))) refl in
-      let one : Step n p.at (comment t) s (Goes s1) = goes refl (acts p.at (comment t) (Goes s1) refl (ends rule)) in
-      as_it_stands (p.is ∙ ap (λ us. record { token = comment t; at = p.at } ∷ us) (ended p.others p.rest)) (and one step.none) same (begun_keeps c) refl
+      let rule : (at : ℕ) → Rule n at (comment t) s0 ≡ Done s1 =
+      λ at. ap (λ r. perform n at (comment t) r s0) (comment_rule i.content c.mode q.mode_fits) ∙ simp (full, graft-new d.node made (forest.comment t) f (q.fresh made (omega arith))) refl in
+      token_then (λ at. (s1, goes refl (acts at (comment t) (Goes s1) refl (ends (rule at))), no_token (as_it_stands same (begun_keeps c) refl)))
 
   -- TEXTS
 
   -- characters, each of which leads from what was read before it to that and itself
   chars_read : {A : Type 0} (ok : ℕ → Bool) (next : A → Placed → A) (S : A → State N) → ((a : A) (p : Placed) → ok p.ch ≡ true → Step n p.at (character p.ch) (S a) (Goes (S (next a p))))
-      → (a : A) (chs : List ℕ) (ts : List (PlacedToken N)) → list_all ok chs ≡ true → AreTokens ts (map (λ ch. character ch) chs)
-      → (ps : List Placed) × (map (λ p. p.ch) ps ≡ chs) × Steps n ts (S a) (Goes (S (all_read next a ps)))
-  chars_read ok next S each a [] [] oks h = ([], refl, step.none)
-  chars_read ok next S each a [] (t ∷ ts) oks h = absurd cc
-  chars_read ok next S each a (ch ∷ chs) ts oks h =
-      let p = first ts (character ch) (map (λ ch. character ch) chs) h in
+      → (a : A) (chs : List ℕ) → list_all ok chs ≡ true → Leads n (map (λ ch. character ch) chs) (S a) (λ s. (ps : List Placed) × (map (λ p. p.ch) ps ≡ chs) × (s ≡ S (all_read next a ps)))
+  chars_read ok next S each a [] oks = no_token ([], refl, refl)
+  chars_read ok next S each a (ch ∷ chs) oks =
       let both = and_parts (ok ch) (list_all ok chs) oks in
-      let new : Placed = record { ch = ch; at = p.at } in
-      let k = chars_read ok next S each (next a new) chs p.others both.1 p.rest in
-      (new ∷ k.0, ap (λ l. ch ∷ l) k.1, subst (λ (us : List (PlacedToken N)). Steps n us (S a) (Goes (S (all_read next (next a new) k.0)))) (sym p.is) (and (each a new both.0) k.2))
+      token_then (λ at. let new : Placed = record { ch = ch; at = at } in
+      (S (next a new), each a new both.0, so (chars_read ok next S each (next a new) chs both.1) (λ s k. (new ∷ k.0, ap (λ l. ch ∷ l) k.1, k.2))))
 
   -- a text, where each of its characters goes in by one rule
-  pub text_built : {d : OpenNode N} {up : List (OpenNode N)} {items : List (Listed N)} {m : Mode} {ok : ℕ → Bool} {made : ℕ} {f : Forest N} {t : List ℕ} {c : Control} {ts : List (PlacedToken N)} → rules.Puts n z d up items m ok → times d.node f ≡ 1 → times made f ≡ 0
+  pub text_built : {d : OpenNode N} {up : List (OpenNode N)} {items : List (Listed N)} {m : Mode} {ok : ℕ → Bool} {made : ℕ} {f : Forest N} {t : List ℕ} {c : Control} {P : State N → Type 0} → rules.Puts n z d up items m ok → times d.node f ≡ 1 → times made f ≡ 0
       → (is : IsText t) → c.mode ≡ m → (c.drop_lf && is.one == 10) ≡ false → list_all ok (is.one ∷ is.more) ≡ true → text_before (LastIn d.node) f ≡ None
-      → made < z.site.nodes.limit → AreTokens ts (map (λ ch. character ch) (chars t))
-      → Steps n ts (state z made f (d ∷ up) items c) (Goes (state z (made + 1) (under d.node (tree made (text t) none none) f) (d ∷ up) items (begun_control c)))
-  text_built {d} {up} {items} {m} {ok} {made} {f} {t} {c} {ts} puts once absent is mode safe oks none_before room h =
-      let p = first ts (character is.one) (map (λ ch. character ch) is.more) (h ∙ ap (map (λ ch. character ch)) is.mapped) in
+      → made < z.site.nodes.limit → P (state z (made + 1) (under d.node (tree made (text t) none none) f) (d ∷ up) items (begun_control c))
+      → Leads n (map (λ ch. character ch) (chars t)) (state z made f (d ∷ up) items c) P
+  text_built {d} {up} {items} {m} {ok} {made} {f} {t} {c} {P} puts once absent is mode safe oks none_before room there =
       let both = and_parts (ok is.one) (list_all ok is.more) oks in
       let s : State N = state z made f (d ∷ up) items c in
       let with_text : List ℕ → State N = λ u. state z (made + 1) (under d.node (tree made (text u) none none) f) (d ∷ up) items (begun_control c) in
-      let one : Step n p.at (character is.one) s (Goes (with_text (encode_utf8 is.one))) =
-      char_step safe (puts p.at is.one made f (begun_control c) (with_text (encode_utf8 is.one)) mode both.0 (rules.put_first n z d up items p.at is.one made f (begun_control c) none_before absent room)) in
-      let k = chars_read ok then_char with_text (λ u q fine. char_step refl (puts q.at q.ch (made + 1) (under d.node (tree made (text u) none none) f) (begun_control c) (with_text (u ++ encode_utf8 q.ch)) mode fine (rules.put_next n z d up items q.at q.ch (made + 1) made u f (begun_control c) once absent)))
-      (encode_utf8 is.one) is.more p.others both.1 p.rest in
-      let all : all_read then_char (encode_utf8 is.one) k.0 ≡ t = text_read (encode_utf8 is.one) k.0 ∙ ap (λ l. encode_utf8_all (is.one ∷ l)) k.1 ∙ is.bytes in
-      subst (λ (us : List (PlacedToken N)). Steps n us s (Goes (with_text t))) (sym p.is) (subst (λ (u : List ℕ). Steps n (record { token = character is.one; at = p.at } ∷ p.others) s (Goes (with_text u))) all (and one k.2))
+      subst (λ (chs : List ℕ). Leads n (map (λ ch. character ch) chs) s P) (sym is.mapped) (token_then (λ at. (
+        with_text (encode_utf8 is.one),
+        char_step safe (puts at is.one made f (begun_control c) (with_text (encode_utf8 is.one)) mode both.0 (rules.put_first n z d up items at is.one made f (begun_control c) none_before absent room)),
+        so (chars_read ok then_char with_text (λ u q fine. char_step refl (puts q.at q.ch (made + 1) (under d.node (tree made (text u) none none) f) (begun_control c) (with_text (u ++ encode_utf8 q.ch)) mode fine (rules.put_next n z d up items q.at q.ch (made + 1) made u f (begun_control c) once absent)))
+            (encode_utf8 is.one) is.more both.1)
+            (λ s' k. subst P (sym (k.2 ∙ ap with_text (text_read (encode_utf8 is.one) k.0 ∙ ap (λ l. encode_utf8_all (is.one ∷ l)) k.1 ∙ is.bytes))) there),
+      )))
 
   other_kind : (t : Token N) → is_character_token t ≡ false → rules.is_other (kind_of n t) ≡ true
   other_kind (character ch) h = cc
   other_kind _ h = refl
 
   -- ELEMENTS
-
-  pub record Tags (x : N) (attrs : List (Attribute N)) (kids : Forest N) (ts : List (PlacedToken N)) : Type 0 where
-    pub at : ℕ
-    pub inner : List (PlacedToken N)
-    pub at_end : ℕ
-    pub is : ts ≡ record { token = start x attrs false; at = at } ∷ inner ++ record { token = end x; at = at_end } ∷ []
-    pub inners : AreTokens inner (plain_tokens n kids)
-
-  pub tags : (x : N) (attrs : List (Attribute N)) (kids : Forest N) (ts : List (PlacedToken N)) → AreTokens ts (start x attrs false ∷ plain_tokens n kids ++ end x ∷ []) → Tags x attrs kids ts
-  tags x attrs kids ts h =
-      let p = first ts (start x attrs false) (plain_tokens n kids ++ end x ∷ []) h in
-      let r = parted p.others (plain_tokens n kids) (end x ∷ []) p.rest in
-      let e = first r.back (end x) [] r.backs in
-      record {
-        at = p.at;
-        inner = r.front;
-        at_end = e.at;
-        is = p.is ∙ ap (λ us. record { token = start x attrs false; at = p.at } ∷ us) (r.is ∙ ap (λ us. r.front ++ us) (e.is ∙ ap (λ us. record { token = end x; at = e.at } ∷ us) (ended e.others e.rest)));
-        inners = r.fronts;
-      }
 
   -- what the end tag of an element does, after its children
   record Closing (x : N) (made : ℕ) (d : OpenNode N) (up : List (OpenNode N)) (items : List (Listed N)) (c : Control) (items2 : List (Listed N)) (c2 : Control) : Type 0 where
@@ -293,49 +251,29 @@ module _ {N : Type 0} (n : Naming N) (laws : NameLaws n) (z : State N) where
   module _ (b : ℕ) (x : N) (attrs : List (Attribute N)) (kids : Forest N) (made : ℕ) (f : Forest N) (d : OpenNode N) (up : List (OpenNode N)) (items items1 : List (Listed N)) (c c1 : Control) (s : State N) (absent : times made f ≡ 0)
       (from : ActsAs n s (state z made f (d ∷ up) items c))
       (opening : (at : ℕ) → Rule n at (start x attrs false) (state z made f (d ∷ up) items (begun_control c)) ≡ Done (state z (made + 1) (under d.node (tree made (element x attrs) none none) f) (node made x ∷ d ∷ up) items1 c1)) where
-    -- what comes of the children
-    record Inner (ts : List (PlacedToken N)) : Type 0 where
-      pub items2 : List (Listed N)
-      pub control2 : Control
-      pub reached : State N
-      pub steps : Steps n ts (state z (made + 1) (under d.node (tree made (element x attrs) none none) f) (node made x ∷ d ∷ up) items1 c1) (Goes reached)
-      pub acts : ActsAs n reached (state z (made + (1 + (size kids + 0))) (under d.node (numbered_forest made (tree b (element x attrs) kids none)) f) (node made x ∷ d ∷ up) items2 control2)
-
-    finish : (ts : List (PlacedToken N)) (t : Tags x attrs kids ts) (inner : Inner t.inner) → Closing x made d up items c inner.items2 inner.control2 → NodeBuilt b (element x attrs) kids made f d up items c s ts
-    finish ts t inner close =
+    finish : Leads n (plain_tokens n kids) (state z (made + 1) (under d.node (tree made (element x attrs) none none) f) (node made x ∷ d ∷ up) items1 c1)
+        (λ s'. (k : Built kids (made + 1) (under d.node (tree made (element x attrs) none none) f) (node made x) (d ∷ up) items1 c1 s') × Closing x made d up items c k.items' k.control')
+        → Leads n (start x attrs false ∷ plain_tokens n kids ++ end x ∷ []) s (NodeBuilt b (element x attrs) kids made f d up items c)
+    finish inner =
         let s1 : State N = state z (made + 1) (under d.node (tree made (element x attrs) none none) f) (node made x ∷ d ∷ up) items1 c1 in
-        let s3 : State N = state z (made + (1 + (size kids + 0))) (under d.node (numbered_forest made (tree b (element x attrs) kids none)) f) (d ∷ up) close.items3 close.control3 in
-        let one : Step n t.at (start x attrs false) s (Goes s1) = start_step (state z made f (d ∷ up) items c) from (opening t.at) in
-        let three : Step n t.at_end (end x) inner.reached (Goes s3) = goes refl (inner.acts t.at_end (end x) (Goes s3) refl (ends (close.rule t.at_end (made + (1 + (size kids + 0))) (under d.node (numbered_forest made (tree b (element x attrs) kids none)) f)))) in
-        let all : Steps n (record { token = start x attrs false; at = t.at } ∷ t.inner ++ record { token = end x; at = t.at_end } ∷ []) s (Goes s3) = and one (after inner.steps (and three step.none)) in
-        as_it_stands t.is all close.thins close.keeps close.no_drop
+        let m : ℕ = made + (1 + (size kids + 0)) in
+        let g : Forest N = under d.node (numbered_forest made (tree b (element x attrs) kids none)) f in
+        let grown : under made (numbered_forest (made + 1) kids) (under d.node (tree made (element x attrs) none none) f) ≡ g = under-new d.node made (element x attrs) none (numbered_forest (made + 1) kids) f absent in
+        let count : made + 1 + size kids ≡ m = omega arith in
+        token_then (λ at. (
+          s1,
+          goes refl (from at (start x attrs false) (Goes s1) refl (ends (opening at))),
+          tokens_then inner (λ s' i. token_then (λ at.
+              let close = i.1 in
+              let s3 : State N = state z m g (d ∷ up) close.items3 close.control3 in
+              let acts : ActsAs n s' (state z m g (node made x ∷ d ∷ up) i.0.items' i.0.control') = subst (ActsAs n s') (λ j. state z (count j) (grown j) (node made x ∷ d ∷ up) i.0.items' i.0.control') i.0.acts in
+              (s3, goes refl (acts at (end x) (Goes s3) refl (ends (close.rule at m g))), no_token (as_it_stands close.thins close.keeps close.no_drop)))),
+        ))
 
-    -- children that are built by the law
-    inner_built : (ts : List (PlacedToken N)) → Built kids (made + 1) (under d.node (tree made (element x attrs) none none) f) (node made x) (d ∷ up) items1 c1 (state z (made + 1) (under d.node (tree made (element x attrs) none none) f) (node made x ∷ d ∷ up) items1 c1) ts → Inner ts
-    inner_built ts k =
-        let grown : under made (numbered_forest (made + 1) kids) (under d.node (tree made (element x attrs) none none) f) ≡ under d.node (tree made (element x attrs) (numbered_forest (made + 1) kids) none) f = under-new d.node made (element x attrs) none (numbered_forest (made + 1) kids) f absent in
-        let count : made + 1 + size kids ≡ made + (1 + (size kids + 0)) = omega arith in
-        record {
-          items2 = k.items';
-          control2 = k.control';
-          reached = k.reached;
-          steps = k.steps;
-          acts = subst (λ (g : Forest N). ActsAs n k.reached (state z (made + (1 + (size kids + 0))) g (node made x ∷ d ∷ up) k.items' k.control')) grown
-              (subst (λ (m : ℕ). ActsAs n k.reached (state z m (under made (numbered_forest (made + 1) kids) (under d.node (tree made (element x attrs) none none) f)) (node made x ∷ d ∷ up) k.items' k.control')) count k.acts);
-        }
-
-  built_none : {made : ℕ} {f : Forest N} {d : OpenNode N} {up : List (OpenNode N)} {items : List (Listed N)} {c : Control} {s : State N} {ts : List (PlacedToken N)} → ActsAs n s (state z made f (d ∷ up) items c) → AreTokens ts [] → Built none made f d up items c s ts
-  built_none {made} {f} {d} {up} {items} {c} {s} {ts} from h =
+  built_none : {made : ℕ} {f : Forest N} {d : OpenNode N} {up : List (OpenNode N)} {items : List (Listed N)} {c : Control} {s : State N} → ActsAs n s (state z made f (d ∷ up) items c) → Built none made f d up items c s
+  built_none {made} {f} {d} {up} {items} {c} {s} from =
       let count : made ≡ made + 0 = omega arith in
-      record {
-        items' = items;
-        control' = c;
-        reached = s;
-        steps = subst (λ (us : List (PlacedToken N)). Steps n us s (Goes s)) (sym (ended ts h)) step.none;
-        acts = subst (λ (k : ℕ). ActsAs n s (state z k (under d.node none f) (d ∷ up) items c)) count (subst (λ (v : Forest N). ActsAs n s (state z made v (d ∷ up) items c)) (sym (under-none d.node f)) from);
-        thinned = same;
-        keeps = keeps-all c;
-      }
+      record { items' = items; control' = c; acts = subst (ActsAs n s) (λ i. state z (count i) (sym (under-none d.node f) i) (d ∷ up) items c) from; thinned = same; keeps = record { mode = refl; head = refl; form = refl; quirks = refl } }
 
   -- a list in which one text is at most
   pub data OneText (l : Forest N) : Type 0 where
@@ -356,41 +294,39 @@ module _ {N : Type 0} (n : Naming N) (laws : NameLaws n) (z : State N) where
   -- a text that is read raw, or none
   module _ (made : ℕ) (f : Forest N) (d : OpenNode N) (up : List (OpenNode N)) (items : List (Listed N)) (c : Control) (once : times d.node f ≡ 1) (absent : times made f ≡ 0) (is_text_mode : c.mode ≡ Text) (none_before : text_before (LastIn d.node) f ≡ None) where
     abbrev Raw : Forest N → Type 0
-    Raw l = (ts : List (PlacedToken N)) → LfSafe c.drop_lf l → made + size l ≤ z.site.nodes.limit → AreTokens ts (plain_tokens n l) → (k : Built l made f d up items c (state z made f (d ∷ up) items c) ts) × (k.control'.saved ≡ c.saved)
+    Raw l = LfSafe c.drop_lf l → made + size l ≤ z.site.nodes.limit → Leads n (plain_tokens n l) (state z made f (d ∷ up) items c) (λ s. (k : Built l made f d up items c s) × (k.control'.saved ≡ c.saved))
 
     raw_built : (l : Forest N) → OneText l → Raw l
     unfolding built_none
-    raw_built l (nothing_there e) = subst (λ (v : Forest N). Raw v) (sym e) (λ ts safe room h. (built_none (itself (state z made f (d ∷ up) items c)) h, refl))
-    raw_built l (one_text b u is e) = subst (λ (v : Forest N). Raw v) (sym e) (λ ts safe room h.
-        let s : State N = state z (made + 1) (under d.node (tree made (text u) none none) f) (d ∷ up) items (begun_control c) in
-        let steps = text_built (rules.raw_puts n z d up items) once absent is is_text_mode (safe is) is.clean none_before (omega arith) (h ∙ append-nil (map (λ ch. character ch) (chars u))) in
-        (record { items' = items; control' = begun_control c; reached = s; steps = steps; acts = itself s; thinned = same; keeps = begun_keeps c }, refl))
+    raw_built l (nothing_there e) = subst (λ (v : Forest N). Raw v) (sym e) (λ safe room. no_token (built_none (itself (state z made f (d ∷ up) items c)), refl))
+    raw_built l (one_text b u is e) = subst (λ (v : Forest N). Raw v) (sym e) (λ safe room ts h.
+        text_built (rules.raw_puts n z d up items) once absent is is_text_mode (safe is) is.clean none_before (omega arith)
+        (record { items' = items; control' = begun_control c; acts = λ at t o e chain. chain; thinned = same; keeps = begun_keeps c }, refl) ts (h ∙ append-nil (map (λ ch. character ch) (chars u))))
 
   -- an element that holds one
   module _ (b : ℕ) (x : N) (attrs : List (Attribute N)) (made : ℕ) (f : Forest N) (d : OpenNode N) (up : List (OpenNode N)) (items : List (Listed N)) (c c1 : Control) (s : State N) (once : times d.node f ≡ 1) (fresh : (m : ℕ) → made ≤ m → times m f ≡ 0)
       (from : ActsAs n s (state z made f (d ∷ up) items c))
       (opening : (at : ℕ) → Rule n at (start x attrs false) (state z made f (d ∷ up) items (begun_control c)) ≡ Done (state z (made + 1) (under d.node (tree made (element x attrs) none none) f) (node made x ∷ d ∷ up) items c1))
       (is_text_mode : c1.mode ≡ Text) (is_saved : c1.saved ≡ c.mode) (heads : c1.head ≡ c.head) (forms : c1.form ≡ c.form) (quirky : c1.quirks ≡ c.quirks) where
-    pub raw_element : (kids : Forest N) → OneText kids → LfSafe c1.drop_lf kids → made + (1 + size kids) ≤ z.site.nodes.limit → (ts : List (PlacedToken N)) → AreTokens ts (start x attrs false ∷ plain_tokens n kids ++ end x ∷ []) → NodeBuilt b (element x attrs) kids made f d up items c s ts
-    unfolding inner_built
-    raw_element kids content safe room ts h =
+    pub raw_element : (kids : Forest N) → OneText kids → LfSafe c1.drop_lf kids → made + (1 + size kids) ≤ z.site.nodes.limit → Leads n (start x attrs false ∷ plain_tokens n kids ++ end x ∷ []) s (NodeBuilt b (element x attrs) kids made f d up items c)
+    raw_element kids content safe room =
         let absent : times made f ≡ 0 = fresh made (omega arith) in
-        let t = tags x attrs kids ts h in
-        let inner = raw_built (made + 1) (under d.node (tree made (element x attrs) none none) f) (node made x) (d ∷ up) items c1 (once-new d.node made (element x attrs) f once absent)
-        (free-grown d.node made (made + 1) (tree b (element x attrs) none none) f once (fresh (made + 1) (omega arith)) (omega arith)) is_text_mode (text_before-leaf d.node made (element x attrs) f once absent)
-        kids content t.inner safe (omega arith) t.inners in
-        let k = inner.0 in
-        finish b x attrs kids made f d up items items c c1 s absent from opening ts t (inner_built b x attrs kids made f d up items items c c1 s absent from opening t.inner k)
-        (closes k.items' k.control'.saved k.control'.form k.thinned (inner.1 ∙ is_saved) (k.keeps.head ∙ heads) (k.keeps.form ∙ forms) (k.keeps.quirks ∙ quirky)
-        (λ at m g. rules.by_mode n z at (end x) Text (End (family_of (n.tag x))) _ _ (k.keeps.mode ∙ is_text_mode) refl refl))
+        finish b x attrs kids made f d up items items c c1 s absent from opening
+        (so (raw_built (made + 1) (under d.node (tree made (element x attrs) none none) f) (node made x) (d ∷ up) items c1 (once-new d.node made (element x attrs) f once absent)
+        (free-grown d.node made (made + 1) (tree b (element x attrs) none none) f once (fresh (made + 1) (omega arith)) (omega arith)) is_text_mode (text_before-leaf d.node made (element x attrs) f once absent) kids content safe (omega arith))
+        (λ s' i. let k = i.0 in (
+          k,
+          closes k.items' k.control'.saved k.control'.form k.thinned (i.1 ∙ is_saved) (k.keeps.head ∙ heads) (k.keeps.form ∙ forms) (k.keeps.quirks ∙ quirky)
+              (λ at m g. rules.by_mode n z at (end x) Text (End (family_of (n.tag x))) _ _ (k.keeps.mode ∙ is_text_mode) refl refl),
+        )))
 
   -- THE LAW
 
   abbrev LawOf : Forest N → Type 0
-  LawOf l = (i : Inside) (made : ℕ) (f : Forest N) (d : OpenNode N) (up : List (OpenNode N)) (items : List (Listed N)) (c : Control) (s : State N) (ts : List (PlacedToken N))
+  LawOf l = (i : Inside) (made : ℕ) (f : Forest N) (d : OpenNode N) (up : List (OpenNode N)) (items : List (Listed N)) (c : Control) (s : State N)
       → Quiet n z.context i made f d up items c → Good n i l → ActsAs n s (state z made f (d ∷ up) items c) → (begins_text l ≡ true → s ≡ state z made f (d ∷ up) items c)
       → (begins_text l ≡ true → text_before (LastIn d.node) f ≡ None) → LfSafe c.drop_lf l → made + size l ≤ z.site.nodes.limit → suc (length up) + depth l ≤ z.site.open_nodes.limit
-      → AreTokens ts (plain_tokens n l) → Built l made f d up items c s ts
+      → Leads n (plain_tokens n l) s (Built l made f d up items c)
 
   marked : {xs ys : List (Listed N)} → Thinned (marker ∷ xs) ys → ys ≡ marker ∷ xs
   marked same = refl
@@ -469,11 +405,8 @@ module _ {N : Type 0} (n : Naming N) (laws : NameLaws n) (z : State N) where
       abbrev Opens : List (Listed N) → Control → Type 0
       Opens items1 c1 = Comes (state z (made + 1) f1 (node made x ∷ d ∷ up) items1 c1)
 
-      abbrev Node : List (PlacedToken N) → Type 0
-      Node ts = NodeBuilt b (element x attrs) kids made f d up items c s ts
-
-      abbrev Spells : List (PlacedToken N) → Type 0
-      Spells ts = AreTokens ts (start x attrs false ∷ plain_tokens n kids ++ end x ∷ [])
+      abbrev Node : Type 0
+      Node = Leads n (start x attrs false ∷ plain_tokens n kids ++ end x ∷ []) s (NodeBuilt b (element x attrs) kids made f d up items c)
 
       -- no p is open inside it
       abbrev NoP : Type 0
@@ -537,9 +470,8 @@ module _ {N : Type 0} (n : Naming N) (laws : NameLaws n) (z : State N) where
         -- an element whose children are built by the law, from this list and this control on
         by_law : (k : Content) → content_within i.content r.content ≡ k → (items1 : List (Listed N)) (c1 : Control) → unwrap_or r.mode (reset_mode n z.context (d ∷ up)) ≡ c1.mode → fits_mode k c1.mode ≡ true → fits_current k (texts_in k) (n.tag x) ≡ true → r.drops ≡ c1.drop_lf
             → EntriesFit items1 → (closes_p k ≡ true → NoP) → NoA items1 → (j.in_form ≡ false → c1.form ≡ None) → Opens items1 c1 → ((items2 : List (Listed N)) (c2 : Control) → Thinned items1 items2 → Keeps c1 c2 → Closing x made d up items c items2 c2)
-            → (ts : List (PlacedToken N)) → Spells ts → Node ts
-        unfolding inner_built
-        by_law k within items1 c1 mode fits cur drop fit pp anchors forms opening closing ts h =
+            → Node
+        by_law k within items1 c1 mode fits cur drop fit pp anchors forms opening closing =
             let o : j.content ≡ k = ap (λ u. content_within i.content u.content) p ∙ within in
             let q1 : Quiet n z.context j (made + 1) f1 (node made x) (d ∷ up) items1 c1 = record {
               mode_is = ap (λ u. unwrap_or u.mode (reset_mode n z.context (d ∷ up))) p ∙ mode;
@@ -555,29 +487,29 @@ module _ {N : Type 0} (n : Naming N) (laws : NameLaws n) (z : State N) where
               no_a = anchors;
               no_form = forms;
             } in
-            let t = tags x attrs kids ts h in
             let s1 : State N = state z (made + 1) f1 (node made x ∷ d ∷ up) items1 c1 in
             let safe : LfSafe c1.drop_lf kids = subst (λ (v : Bool). LfSafe v kids) (ap (λ u. u.drops) p ∙ drop) lf in
-            let k = law j (made + 1) f1 (node made x) (d ∷ up) items1 c1 s1 t.inner q1 g (itself s1) (λ e. refl) (λ e. text_before-leaf d.node made (element x attrs) f q.once absent1) safe (omega arith) (omega arith) t.inners in
-            finish b x attrs kids made f d up items items1 c c1 s absent1 from opening ts t (inner_built b x attrs kids made f d up items items1 c c1 s absent1 from opening t.inner k) (closing k.items' k.control' k.thinned k.keeps)
+            finish b x attrs kids made f d up items items1 c c1 s absent1 from opening
+            (so (law j (made + 1) f1 (node made x) (d ∷ up) items1 c1 s1 q1 g (itself s1) (λ e. refl) (λ e. text_before-leaf d.node made (element x attrs) f q.once absent1) safe (omega arith) (omega arith))
+            (λ s' k. (k, closing k.items' k.control' k.thinned k.keeps)))
 
         -- an element in flow that changes neither the list nor the control, but for a LF that is dropped after its start tag
         own : (k : Content) → content_within i.content r.content ≡ k → is_flow_mode c.mode ≡ true → fits_mode k c.mode ≡ true → fits_current k (texts_in k) (n.tag x) ≡ true → r.mode ≡ None → r.marks ≡ false → (closes_p k ≡ true → NoP)
-            → Opens items (record (begun_control c) { drop_lf = r.drops }) → Ends → (ts : List (PlacedToken N)) → Spells ts → Node ts
+            → Opens items (record (begun_control c) { drop_lf = r.drops }) → Ends → Node
         own k within flows fits cur mode marks pp opening ends_so =
             by_law k within items (record (begun_control c) { drop_lf = r.drops }) (ap (λ o. unwrap_or o (reset_mode n z.context (d ∷ up))) mode ∙ q.mode_is) fits cur refl as_before pp (anchors_same (ap (λ u. u.marks) p ∙ marks)) forms_same opening
             (λ items2 c2 t k. closes items2 c2.mode c2.form t k.mode k.head k.form k.quirks (λ at m g. ends_so at m g items2 (begun_control c2) (ap is_flow_mode k.mode ∙ flows)))
 
         -- a table and its parts: a mode of their own inside, and the mode that was after them
         in_parts : (k : Content) (m back : Mode) → content_within i.content r.content ≡ k → r.mode ≡ Some m → r.marks ≡ false → r.drops ≡ false → fits_mode k m ≡ true → fits_current k (texts_in k) (n.tag x) ≡ true → closes_p k ≡ false → back ≡ c.mode
-            → Opens items (record (begun_control c) { mode = m }) → EndsIn m (λ l. l) back → (ts : List (PlacedToken N)) → Spells ts → Node ts
+            → Opens items (record (begun_control c) { mode = m }) → EndsIn m (λ l. l) back → Node
         in_parts k m back within mode marks drop fits cur open_p was opening ends_so =
             by_law k within items (record (begun_control c) { mode = m }) (ap (λ o. unwrap_or o (reset_mode n z.context (d ∷ up))) mode) fits cur drop as_before (λ e. absurd (false≢true (sym open_p ∙ e))) (anchors_same (ap (λ u. u.marks) p ∙ marks)) forms_same opening
             (λ items2 c2 t k. closes items2 back c2.form t was k.head k.form k.quirks (λ at m g. ends_so at m g items2 (begun_control c2) k.mode))
 
         -- a caption, a cell and an object: flow content after a marker, after which the list is as it was
         marking : (m back : Mode) → content_within i.content r.content ≡ content.Flow → unwrap_or r.mode (reset_mode n z.context (d ∷ up)) ≡ m → is_flow_mode m ≡ true → r.is_heading ≡ false → r.is_p ≡ false → r.stops_button ≡ true → r.drops ≡ false → back ≡ c.mode
-            → Opens (marker ∷ items) (record (begun_control c) { mode = m }) → EndsIn m cleared back → (ts : List (PlacedToken N)) → Spells ts → Node ts
+            → Opens (marker ∷ items) (record (begun_control c) { mode = m }) → EndsIn m cleared back → Node
         marking m back within mode flows no_heading no_p stops_it drop was opening ends_so =
             by_law content.Flow within (marker ∷ items) (record (begun_control c) { mode = m }) mode flows (ap (λ u. not u.is_heading) p ∙ ap not no_heading) drop (tt, as_before.1) (λ h. p_stopped (ap (λ u. u.is_p) p ∙ no_p) (ap (λ u. u.stops_button) p ∙ stops_it))
             (λ h y e. refl) forms_same opening
@@ -585,7 +517,7 @@ module _ {N : Type 0} (n : Naming N) (laws : NameLaws n) (z : State N) where
 
       -- blocks, and lists
       a_block : (k : Content) (lists dls : Bool) → profile (n.tag x) ≡ record (plain_profile family.Block role.Flow k) { holds_list_items = lists; is_dl = dls } → content_within i.content k ≡ k → ((m : Mode) → fits_mode k m ≡ is_flow_mode m)
-          → fits_current k (texts_in k) (n.tag x) ≡ true → (ts : List (PlacedToken N)) → Spells ts → Node ts
+          → fits_current k (texts_in k) (n.tag x) ≡ true → Node
       a_block k lists dls p within fit cur =
           let flow = in_flow _ p refl in
           own _ p k within flow.0 (fit c.mode ∙ flow.0) cur refl refl (λ h. p_below (ap (λ r. r.is_p) p) flow.1)
@@ -629,7 +561,7 @@ module _ {N : Type 0} (n : Naming N) (laws : NameLaws n) (z : State N) where
                 let gone : entry_of made l ≡ None = (unlisted l u).0 in
                 closes l c2.mode c2.form (then roomy u) k.mode k.head k.form k.quirks (λ at m g. flow_end _ p (by_end family.A) _ _ at adopts flows (simp (self, gone) refl))
 
-        formatting : NoA (entry new ∷ with_room n.same new items) → Opens (entry new ∷ with_room n.same new items) (begun_control c) → (ts : List (PlacedToken N)) → Spells ts → Node ts
+        formatting : NoA (entry new ∷ with_room n.same new items) → Opens (entry new ∷ with_room n.same new items) (begun_control c) → Node
         formatting anchors opening =
             let still_open = open-pushed (node made x) (d ∷ up) (with_room n.same new items) (open-thinned (d ∷ up) roomy q.listed) in
             by_law _ p i.content refl (entry new ∷ with_room n.same new items) (begun_control c) q.mode_is q.mode_fits (around_current w a false p) refl ((rw (eq-eqb made made refl) refl, still_open), (omega arith, lower-thinned (made + 1) roomy as_before.1))
@@ -641,22 +573,22 @@ module _ {N : Type 0} (n : Naming N) (laws : NameLaws n) (z : State N) where
       raw_control drops = record (begun_control c) { saved = c.mode; mode = Text; drop_lf = drops }
 
       a_raw : (w : Family) (k : Content) (drops : Bool) → profile (n.tag x) ≡ record (plain_profile w role.Phrasing k) { drops = drops } → content_within i.content k ≡ k → takes_comments k ≡ false → ((r : Role) → takes_role k r ≡ false)
-          → Opens items (raw_control drops) → (ts : List (PlacedToken N)) → Spells ts → Node ts
-      a_raw w k drops p within no_comments no_elements opens ts h =
+          → Opens items (raw_control drops) → Node
+      a_raw w k drops p within no_comments no_elements opens =
           raw_element b x attrs made f d up items c (raw_control drops) s q.once q.fresh from opens refl refl refl refl refl kids
-          (raw_kids j kids (ap takes_comments o ∙ no_comments) (λ r. ap (λ u. takes_role u r) o ∙ no_elements r) g) (subst (λ (v : Bool). LfSafe v kids) (ap (λ r. r.drops) p) lf) room_in ts h
+          (raw_kids j kids (ap takes_comments o ∙ no_comments) (λ r. ap (λ u. takes_role u r) o ∙ no_elements r) g) (subst (λ (v : Bool). LfSafe v kids) (ap (λ r. r.drops) p) lf) room_in
         where
           o : j.content ≡ k
           o = ap (λ u. content_within i.content u.content) p ∙ within
 
-      a_raw_element : (w : Family) (k : Content) → IsFlowRule (Start w) raw → profile (n.tag x) ≡ plain_profile w role.Phrasing k → content_within i.content k ≡ k → takes_comments k ≡ false → ((r : Role) → takes_role k r ≡ false) → (ts : List (PlacedToken N)) → Spells ts → Node ts
+      a_raw_element : (w : Family) (k : Content) → IsFlowRule (Start w) raw → profile (n.tag x) ≡ plain_profile w role.Phrasing k → content_within i.content k ≡ k → takes_comments k ≡ false → ((r : Role) → takes_role k r ≡ false) → Node
       a_raw_element w k rule p within no_comments no_elements = a_raw w k false p within no_comments no_elements (flow_start _ p raw _ (phrasing_flows _ p refl) rule (λ at. simp (full, high, grown) refl))
 
       -- the parts of a table are in it
       in_table : i.content ≡ content.TableParts → (c.mode ≡ InTable) × (is_table_context (n.tag d.name) ≡ true)
       in_table e = ((own_mode c.mode).parts (mode_in n q content.TableParts e), (and_parts (is_table_context (n.tag d.name)) _ (current_in n q content.TableParts e)).0)
 
-      of_class : (w : Family) (k : Content) → profile (n.tag x) ≡ class_profile w k → is_void (n.tag x) ≡ false → (ts : List (PlacedToken N)) → Spells ts → Node ts
+      of_class : (w : Family) (k : Content) → profile (n.tag x) ≡ class_profile w k → is_void (n.tag x) ≡ false → Node
       of_class family.Block content.ListItems p plain = a_block content.ListItems true false p refl (λ m. refl) (ap (λ r. r.holds_list_items) p)
       of_class family.Block content.Definitions p plain = a_block content.Definitions false true p refl (λ m. refl) (ap (λ r. r.is_dl) p)
       of_class family.Block _ p plain = a_block content.Flow false false p refl (λ m. refl) (ap (λ r. not r.is_heading) p)
@@ -780,19 +712,20 @@ module _ {N : Type 0} (n : Naming N) (laws : NameLaws n) (z : State N) where
     -- VOID ELEMENTS
 
     module _ (b : ℕ) where
-      abbrev Void : List (PlacedToken N) → Type 0
-      Void ts = AreTokens ts (start x attrs false ∷ []) → NodeBuilt b (element x attrs) none made f d up items c s ts
+      abbrev Void : Type 0
+      Void = Leads n (start x attrs false ∷ []) s (NodeBuilt b (element x attrs) none made f d up items c)
 
       abbrev passed : State N
       passed = state z (made + 1) f1 (d ∷ up) items (record (begun_control c) { acknowledged = true })
 
-      void_built : Comes passed → (ts : List (PlacedToken N)) → Void ts
-      void_built opening ts h =
-          let t = first ts (start x attrs false) [] h in
-          let one : Step n t.at (start x attrs false) s (Goes passed) = start_step (state z made f (d ∷ up) items c) from (opening t.at) in
-          as_it_stands (t.is ∙ ap (λ us. record { token = start x attrs false; at = t.at } ∷ us) (ended t.others t.rest)) (and one step.none) same (record { mode = refl; head = refl; form = refl; quirks = refl }) refl
+      void_built : Comes passed → Void
+      void_built opening = token_then (λ at. (
+        passed,
+        goes refl (from at (start x attrs false) (Goes passed) refl (ends (opening at))),
+        no_token (as_it_stands same (record { mode = refl; head = refl; form = refl; quirks = refl }) refl),
+      ))
 
-      in_phrasing : (r : Profile) (p : profile (n.tag x) ≡ r) (rule : Do) → IsFlowRule (Start r.family) rule → r.role ≡ role.Phrasing → ((at : ℕ) → perform n at (start x attrs false) rule now ≡ Done passed) → (ts : List (PlacedToken N)) → Void ts
+      in_phrasing : (r : Profile) (p : profile (n.tag x) ≡ r) (rule : Do) → IsFlowRule (Start r.family) rule → r.role ≡ role.Phrasing → ((at : ℕ) → perform n at (start x attrs false) rule now ≡ Done passed) → Void
       in_phrasing r p rule h e done = void_built (flow_start r p rule _ (phrasing_flows r p e) h done)
 
       in_text : (at : ℕ) → perform n at (start x attrs false) void_in_text now ≡ Done passed
@@ -801,7 +734,7 @@ module _ {N : Type 0} (n : Naming N) (laws : NameLaws n) (z : State N) where
       plain_void : (at : ℕ) → perform n at (start x attrs false) void now ≡ Done passed
       plain_void at = simp (full, high, grown) refl
 
-      of_void : (w : Family) (k : Content) → profile (n.tag x) ≡ class_profile w k → is_void (n.tag x) ≡ true → (ts : List (PlacedToken N)) → Void ts
+      of_void : (w : Family) (k : Content) → profile (n.tag x) ≡ class_profile w k → is_void (n.tag x) ≡ true → Void
       of_void family.Br k p void_is = in_phrasing _ p void_in_text (refl, refl, refl) refl in_text
       of_void family.Input k p void_is = in_phrasing _ p void_in_text (refl, refl, refl) refl in_text
       of_void family.PhrasingVoid k p void_is = in_phrasing _ p void_in_text (refl, refl, refl) refl in_text
@@ -820,56 +753,45 @@ module _ {N : Type 0} (n : Naming N) (laws : NameLaws n) (z : State N) where
   fosters_at a b h e = grind arith
 
   text_node : (i : Inside) (b : ℕ) (t : List ℕ) (made : ℕ) (f : Forest N) (d : OpenNode N) (up : List (OpenNode N)) (items : List (Listed N)) (c : Control) → Quiet n z.context i made f d up items c → (good : GoodText i t)
-      → text_before (LastIn d.node) f ≡ None → (c.drop_lf && good.is.one == 10) ≡ false → made < z.site.nodes.limit → (ts : List (PlacedToken N)) → AreTokens ts (map (λ ch. character ch) (chars t)) → NodeBuilt b (text t) none made f d up items c (state z made f (d ∷ up) items c) ts
-  text_node i b t made f d up items c q good none_before safe room ts h = go i.content refl
+      → text_before (LastIn d.node) f ≡ None → (c.drop_lf && good.is.one == 10) ≡ false → made < z.site.nodes.limit → Leads n (map (λ ch. character ch) (chars t)) (state z made f (d ∷ up) items c) (NodeBuilt b (text t) none made f d up items c)
+  text_node i b t made f d up items c q good none_before safe room = go i.content refl
     where
       s : State N
       s = state z made f (d ∷ up) items c
 
       Node : Type 0
-      Node = NodeBuilt b (text t) none made f d up items c s ts
-
-      absent_now : times made f ≡ 0
-      absent_now = q.fresh made (omega arith)
+      Node = Leads n (map (λ ch. character ch) (chars t)) s (NodeBuilt b (text t) none made f d up items c)
 
       -- in flow, and in a colgroup
       put_at_once : (m : Mode) (ok : ℕ → Bool) → rules.Puts n z d up items m ok → c.mode ≡ m → list_all ok (good.is.one ∷ good.is.more) ≡ true → Node
       put_at_once m ok puts mode oks =
-          as_it_stands refl (text_built puts q.once absent_now good.is mode safe oks none_before room h) same (begun_keeps c) refl
+          text_built puts q.once (q.fresh made (omega arith)) good.is mode safe oks none_before room (as_it_stands same (begun_keeps c) refl)
 
       -- in the parts of a table, where white space waits
       in_parts : rules.is_parts_mode c.mode ≡ true → is_fostering (n.tag d.name) ≡ true → list_all is_space (good.is.one ∷ good.is.more) ≡ true → Node
       in_parts parts fosters spaces =
-          let p = first ts (character good.is.one) (map (λ ch. character ch) good.is.more) (h ∙ ap (map (λ ch. character ch)) good.is.mapped) in
           let both = and_parts (is_space good.is.one) (list_all is_space good.is.more) spaces in
-          let new : Placed = record { ch = good.is.one; at = p.at } in
           let c0 : Control = record (begun_control c) { pending = []; saved = c.mode; mode = InTableText } in
           let held : List Placed → State N = λ l. state z made f (d ∷ up) items (record c0 { pending = l }) in
-          let one : Step n p.at (character good.is.one) s (Goes (held (new ∷ []))) =
-          goes safe (goes_again (rules.first_held n z p.at made f d up items (begun_control c) good.is.one parts both.0 fosters) (ends (rules.held n z p.at made f d up items c0 good.is.one refl both.0))) in
-          let k = chars_read is_space then_placed held (λ l q fine. char_step refl (rules.held n z q.at made f d up items (record c0 { pending = l }) q.ch refl fine))
-          (new ∷ []) good.is.more p.others both.1 p.rest in
-          let all : List Placed = new ∷ k.0 in
-          let steps : Steps n ts s (Goes (held all)) = subst (λ (us : List (PlacedToken N)). Steps n us s (Goes (held all))) (sym p.is)
-          (subst (λ (l : List Placed). Steps n (record { token = character good.is.one; at = p.at } ∷ p.others) s (Goes (held l))) (placed_read (new ∷ []) k.0) (and one k.2)) in
-          let bytes : encode_utf8_all (map (λ p. p.ch) all) ≡ t = ap (λ l. encode_utf8_all (good.is.one ∷ l)) k.1 ∙ good.is.bytes in
           let c3 : Control = record c0 { mode = c.mode } in
           let put : List ℕ → State N = λ u. state z (made + 1) (under d.node (tree made (text u) none none) f) (d ∷ up) items c3 in
-          let acts : ActsAs n (held all) (put (encode_utf8_all (map (λ p. p.ch) all))) =
-          λ at t o other chain. rules.acts n z d up items at t new k.0 made f (record c0 { pending = all }) o (other_kind t other) refl refl (sym (list_all-map is_space (λ (p : Placed). p.ch) all) ∙ ap (λ l. list_all is_space (good.is.one ∷ l)) k.1 ∙ spaces) q.once absent_now room none_before chain in
-          record {
-            built = record {
-              items' = items;
-              control' = c3;
-              reached = held all;
-              steps = steps;
-              acts = subst (λ (u : List ℕ). ActsAs n (held all) (put u)) bytes acts;
-              thinned = same;
-              keeps = record { mode = refl; head = refl; form = refl; quirks = refl };
-            };
-            no_drop = refl;
-            exact = λ e. absurd cc;
-          }
+          subst (λ (chs : List ℕ). Leads n (map (λ ch. character ch) chs) s (NodeBuilt b (text t) none made f d up items c)) (sym good.is.mapped) (token_then (λ at.
+          let new : Placed = record { ch = good.is.one; at = at } in (
+            held (new ∷ []),
+            goes safe (goes_again (rules.first_held n z at made f d up items (begun_control c) good.is.one parts both.0 fosters) (ends (rules.held n z at made f d up items c0 good.is.one refl both.0))),
+            so (chars_read is_space then_placed held (λ l q fine. char_step refl (rules.held n z q.at made f d up items (record c0 { pending = l }) q.ch refl fine)) (new ∷ []) good.is.more both.1)
+                (λ s' k.
+                let all : List Placed = new ∷ k.0 in
+                let bytes : encode_utf8_all (map (λ p. p.ch) all) ≡ t = ap (λ l. encode_utf8_all (good.is.one ∷ l)) k.1 ∙ good.is.bytes in
+                let acts : ActsAs n (held all) (put (encode_utf8_all (map (λ p. p.ch) all))) =
+                λ at t o other chain. rules.acts n z d up items at t new k.0 made f (record c0 { pending = all }) o (other_kind t other) refl refl (sym (list_all-map is_space (λ (p : Placed). p.ch) all) ∙ ap (λ l. list_all is_space (good.is.one ∷ l)) k.1 ∙ spaces) q.once (q.fresh made (omega arith)) room none_before chain in
+                let as_held : s' ≡ held all = k.2 ∙ ap held (placed_read (new ∷ []) k.0) in
+                record {
+                  built = record { items' = items; control' = c3; acts = subst (λ (v : State N). ActsAs n v (put t)) (sym as_held) (subst (λ (u : List ℕ). ActsAs n (held all) (put u)) bytes acts); thinned = same; keeps = record { mode = refl; head = refl; form = refl; quirks = refl } };
+                  no_drop = refl;
+                  exact = λ e. absurd cc;
+                }),
+          )))
 
       text_now : (k : Content) → i.content ≡ k → TextIn k (takes_space i.texts) (good.is.one ∷ good.is.more)
       text_now k e = subst (λ (u : Content). TextIn u (takes_space i.texts) (good.is.one ∷ good.is.more)) e good.fits
@@ -882,35 +804,29 @@ module _ {N : Type 0} (n : Naming N) (laws : NameLaws n) (z : State N) where
       go content.Empty e = absurd (text_now content.Empty e)
       go k e = put_at_once c.mode is_clean_char (rules.flow_puts n z d up items c.mode (mode_in n q k e) q.listed) refl good.is.clean
 
-  node_and_rest : {b : ℕ} {w : What N} {kids rest : Forest N} {i : Inside} {made : ℕ} {f : Forest N} {d : OpenNode N} {up : List (OpenNode N)} {items : List (Listed N)} {c : Control} {s : State N} {ts : List (PlacedToken N)} → LawOf rest → (us : List (Token N))
+  node_and_rest : {b : ℕ} {w : What N} {kids rest : Forest N} {i : Inside} {made : ℕ} {f : Forest N} {d : OpenNode N} {up : List (OpenNode N)} {items : List (Listed N)} {c : Control} {s : State N} → LawOf rest → (us : List (Token N))
       → Quiet n z.context i made f d up items c → Good n i rest → (begins_text rest ≡ true → is_text w ≡ false) → (is_text w ≡ false → if_text made (Some w) ≡ None) → made + (1 + (size kids + size rest)) ≤ z.site.nodes.limit → suc (length up) + depth rest ≤ z.site.open_nodes.limit
-      → AreTokens ts (us ++ plain_tokens n rest) → ((front : List (PlacedToken N)) → AreTokens front us → NodeBuilt b w kids made f d up items c s front)
-      → Built (tree b w kids rest) made f d up items c s ts
-  node_and_rest {b} {w} {kids} {rest} {i} {made} {f} {d} {up} {items} {c} {s} {ts} law us q g other unlike room deep h node_law =
-      let p = parted ts us (plain_tokens n rest) h in
-      let node_head = node_law p.front p.fronts in
+      → Leads n us s (NodeBuilt b w kids made f d up items c) → Leads n (us ++ plain_tokens n rest) s (Built (tree b w kids rest) made f d up items c)
+  node_and_rest {b} {w} {kids} {rest} {i} {made} {f} {d} {up} {items} {c} {s} law us q g other unlike room deep node_law = tokens_then node_law (λ s1 node_head.
       let head = node_head.built in
       let g1 : Forest N = under d.node (numbered_forest made (tree b w kids none)) f in
       let made1 : ℕ = made + (1 + (size kids + 0)) in
       let q1 : Quiet n z.context i made1 g1 d up head.items' head.control' = later i (tree b w kids none) made f d up items head.items' c head.control' q head.thinned head.keeps in
-      let back = law i made1 g1 d up head.items' head.control' head.reached p.back q1 g head.acts (λ e. node_head.exact (other e)) (λ e. text_before-new d.node made w (numbered_forest (made + 1) kids) f q.once (q.fresh made (omega arith)) (times-numbered d.node (made + 1) kids (inl (let low = q.lower.0 in omega arith))) (times-numbered made (made + 1) kids (inl (omega arith))) ∙ unlike (other e))
-      (subst (λ (v : Bool). LfSafe v rest) (sym node_head.no_drop) (lf_none rest)) (omega arith) deep p.backs in
       let count : made1 + size rest ≡ made + (1 + (size kids + size rest)) = omega arith in
       let grown = rest-grown d.node made b w kids rest f in
-      record {
+      so (law i made1 g1 d up head.items' head.control' s1 q1 g head.acts (λ e. node_head.exact (other e)) (λ e. text_before-new d.node made w (numbered_forest (made + 1) kids) f q.once (q.fresh made (omega arith)) (times-numbered d.node (made + 1) kids (inl (let low = q.lower.0 in omega arith))) (times-numbered made (made + 1) kids (inl (omega arith))) ∙ unlike (other e))
+      (subst (λ (v : Bool). LfSafe v rest) (sym node_head.no_drop) (lf_none rest)) (omega arith) deep)
+      (λ s2 back. record {
         items' = back.items';
         control' = back.control';
-        reached = back.reached;
-        steps = subst (λ (v : List (PlacedToken N)). Steps n v s (Goes back.reached)) (sym p.is) (after head.steps back.steps);
-        acts = subst (λ (k : ℕ). ActsAs n back.reached (state z k (under d.node (numbered_forest made (tree b w kids rest)) f) (d ∷ up) back.items' back.control')) count
-            (subst (λ (v : Forest N). ActsAs n back.reached (state z (made1 + size rest) v (d ∷ up) back.items' back.control')) grown back.acts);
+        acts = subst (ActsAs n s2) (λ j. state z (count j) (grown j) (d ∷ up) back.items' back.control') back.acts;
         thinned = then head.thinned back.thinned;
         keeps = keeps-then head.keeps back.keeps;
-      }
+      }))
 
   pub builds : (l : Forest N) → LawOf l
-  builds none i made f d up items c s ts q g from no_text before safe room deep h = built_none from h
-  builds (tree b (element x attrs) kids rest) i made f d up items c s ts q g from no_text before safe room deep h =
+  builds none i made f d up items c s q g from no_text before safe room deep = no_token (built_none from)
+  builds (tree b (element x attrs) kids rest) i made f d up items c s q g from no_text before safe room deep =
       go (is_void (n.tag x)) refl (builds kids) (builds rest)
     where
       w : Family
@@ -922,18 +838,20 @@ module _ {N : Type 0} (n : Naming N) (laws : NameLaws n) (z : State N) where
       p : profile (n.tag x) ≡ class_profile w k
       p = classed (n.tag x) (λ e. false≢true (sym (no_nowhere i.content) ∙ ap (takes_role i.content) (sym e) ∙ g.0))
 
-      go : (v : Bool) → is_void (n.tag x) ≡ v → LawOf kids → LawOf rest → Built (tree b (element x attrs) kids rest) made f d up items c s ts
+      go : (v : Bool) → is_void (n.tag x) ≡ v → LawOf kids → LawOf rest → Leads n (plain_tokens n (tree b (element x attrs) kids rest)) s (Built (tree b (element x attrs) kids rest) made f d up items c)
       go false plain law_kids law_rest =
-          node_and_rest law_rest (start x attrs false ∷ plain_tokens n kids ++ end x ∷ []) q g.4 (λ e. refl) (λ e. refl) room (omega arith) (mapped n b x attrs kids rest ts plain h) (λ front e. of_class x attrs i made f d up items c s q from g.0 (omega arith) (omega arith) b kids law_kids g.1 g.2 g.3 (omega arith) (omega arith) w k p plain front e)
+          subst (λ (us : List (Token N)). Leads n us s (Built (tree b (element x attrs) kids rest) made f d up items c)) (sym (mapped n b x attrs kids rest plain))
+          (node_and_rest law_rest (start x attrs false ∷ plain_tokens n kids ++ end x ∷ []) q g.4 (λ e. refl) (λ e. refl) room (omega arith) (of_class x attrs i made f d up items c s q from g.0 (omega arith) (omega arith) b kids law_kids g.1 g.2 g.3 (omega arith) (omega arith) w k p plain))
       go true void_is law_kids law_rest =
           let empty : kids ≡ none = good-empty (inside_element (n.tag x) i) kids (ap (λ o. content_within i.content o.content) p ∙ ap (content_within i.content) (void_empty w k (sym (ap (λ r. r.is_void) p) ∙ void_is))) g.3 in
-          let h1 : AreTokens ts (start x attrs false ∷ plain_tokens n rest) = h ∙ (rw void_is refl) in
+          let spelled : plain_tokens n (tree b (element x attrs) kids rest) ≡ start x attrs false ∷ plain_tokens n rest = rw void_is refl in
           let sized : size kids ≡ 0 = ap size empty in
-          subst (λ (k : Forest N). Built (tree b (element x attrs) k rest) made f d up items c s ts) (sym empty)
-          (node_and_rest law_rest (start x attrs false ∷ []) q g.4 (λ e. refl) (λ e. refl) (omega arith) (omega arith) h1 (λ front e. of_void x attrs i made f d up items c s q from g.0 (omega arith) (omega arith) b w k p void_is front e))
-  builds (tree b (text t) none rest) i made f d up items c s ts q g from no_text before safe room deep h =
-      subst (λ (u : State N). Built (tree b (text t) none rest) made f d up items c u ts) (sym (no_text refl))
-      (node_and_rest (builds rest) (map (λ ch. character ch) (chars t)) q g.2 (λ e. absurd (let z = g.1 in cc)) (λ e. absurd cc) room deep h (λ front e. text_node i b t made f d up items c q g.0 (before refl) (safe g.0.is) (omega arith) front e))
-  builds (tree b (forest.comment t) none rest) i made f d up items c s ts q g from no_text before safe room deep h =
-      node_and_rest (builds rest) (comment t ∷ []) q g.1 (λ e. refl) (λ e. refl) room deep h (λ front e. comment_built q from (omega arith) e)
-  builds _ i made f d up items c s ts q g from no_text before safe room deep h = absurd g
+          subst (λ (us : List (Token N)). Leads n us s (Built (tree b (element x attrs) kids rest) made f d up items c)) (sym spelled)
+          (subst (λ (k : Forest N). Leads n (start x attrs false ∷ plain_tokens n rest) s (Built (tree b (element x attrs) k rest) made f d up items c)) (sym empty)
+          (node_and_rest law_rest (start x attrs false ∷ []) q g.4 (λ e. refl) (λ e. refl) (omega arith) (omega arith) (of_void x attrs i made f d up items c s q from g.0 (omega arith) (omega arith) b w k p void_is)))
+  builds (tree b (text t) none rest) i made f d up items c s q g from no_text before safe room deep =
+      subst (λ (u : State N). Leads n (plain_tokens n (tree b (text t) none rest)) u (Built (tree b (text t) none rest) made f d up items c)) (sym (no_text refl))
+      (node_and_rest (builds rest) (map (λ ch. character ch) (chars t)) q g.2 (λ e. absurd (let z = g.1 in cc)) (λ e. absurd cc) room deep (text_node i b t made f d up items c q g.0 (before refl) (safe g.0.is) (omega arith)))
+  builds (tree b (forest.comment t) none rest) i made f d up items c s q g from no_text before safe room deep =
+      node_and_rest (builds rest) (comment t ∷ []) q g.1 (λ e. refl) (λ e. refl) room deep (comment_built q from (omega arith))
+  builds _ i made f d up items c s q g from no_text before safe room deep = absurd g
