@@ -2,25 +2,22 @@
 use Rattle.hlaws.proofs.Names.{◌≡◌, ℕ, List, ◌++◌, length, Option, None, Some, Result, Ok, Err, refl, sym, ap, ◌∙◌, subst, IsPermutation, ParseError, Placed, RefusedName, Refusal, OutOfProfile, input_errors, Policy, read_len, refusal_of, Entities, Tok, Tokens, HasAnswer, gives, refuses, one_list_of_tokens, no_tokens_of_refused, one_refusal, some_answer, ExactlyOne, in_order, order-permutes, order-sorted, decoded, Answers, read_text, refused_text, OneAnswer}
 use Rattle.names.specs.declared.raw.RawKind.TheVariants as kind
 use Rattle.hparse.specs.Answer.{refused_bytes, accepted}
-use Rattle.hlaws.proofs.OneInput.{all-read, one-some, never-both, one-list}
+use Rattle.hlaws.proofs.OneInput.{all-read, at-end, never-both, one-list}
 
 module _ (table : Entities) (how : Policy) (bytes : List ℕ) where
   abbrev text : List Placed
   text = read_text how bytes
-
-  at-end : {tokens : List Tok} {errors : List ParseError} → refusal_of how bytes ≡ None → Tokens table kind.None text (length bytes) tokens errors → Tokens table kind.None text (read_len how bytes) tokens errors
-  at-end {tokens} {errors} whole read = subst (λ (n : ℕ). Tokens table kind.None text n tokens errors) (sym (all-read how bytes whole)) read
 
   one-of-two : (x y : Result (List Tok × List ParseError) Refusal) → Answers table how bytes x → Answers table how bytes y → x ≡ y
   one-of-two x y (refused_text refusal h) (refused_text refusal' k) =
       let same = one_refusal table kind.None text (read_len how bytes) h.at k.at h.name k.name h.tokens k.tokens h.refused k.refused in
       ap (λ (r : Refusal). Err r) (h.refusal_is ∙ ap (λ (n : RefusedName). OutOfProfile n h.at) same.0 ∙ ap (OutOfProfile k.name) same.1 ∙ sym k.refusal_is)
   one-of-two x y (refused_text refusal h) (refused_bytes refusal' tokens errors read r) = absurd (no_tokens_of_refused table kind.None text (read_len how bytes) h.at h.name tokens h.tokens errors read h.refused)
-  one-of-two x y (refused_text refusal h) (accepted tokens errors sorted read p s whole) = absurd (no_tokens_of_refused table kind.None text (read_len how bytes) h.at h.name tokens h.tokens errors (at-end whole read) h.refused)
+  one-of-two x y (refused_text refusal h) (accepted tokens errors sorted read p s whole) = absurd (no_tokens_of_refused table kind.None text (read_len how bytes) h.at h.name tokens h.tokens errors (at-end how bytes whole read) h.refused)
   one-of-two x y (refused_bytes refusal tokens errors read r) (refused_text refusal' h) = absurd (no_tokens_of_refused table kind.None text (read_len how bytes) h.at h.name tokens h.tokens errors read h.refused)
-  one-of-two x y (refused_bytes refusal tokens errors read r) (refused_bytes refusal' tokens' errors' read' r') = ap (λ (e : Refusal). Err e) (one-some refusal refusal' (refusal_of how bytes) r r')
+  one-of-two x y (refused_bytes refusal tokens errors read r) (refused_bytes refusal' tokens' errors' read' r') = ap (λ (e : Refusal). Err e) (let same : Some refusal ≡ Some refusal' = sym r ∙ r' in cc)
   one-of-two x y (refused_bytes refusal tokens errors read r) (accepted tokens' errors' sorted read' p s whole) = absurd (never-both refusal (refusal_of how bytes) r whole)
-  one-of-two x y (accepted tokens errors sorted read p s whole) (refused_text refusal h) = absurd (no_tokens_of_refused table kind.None text (read_len how bytes) h.at h.name tokens h.tokens errors (at-end whole read) h.refused)
+  one-of-two x y (accepted tokens errors sorted read p s whole) (refused_text refusal h) = absurd (no_tokens_of_refused table kind.None text (read_len how bytes) h.at h.name tokens h.tokens errors (at-end how bytes whole read) h.refused)
   one-of-two x y (accepted tokens errors sorted read p s whole) (refused_bytes refusal tokens' errors' read' r) = absurd (never-both refusal (refusal_of how bytes) r whole)
   one-of-two x y (accepted tokens errors sorted read p s whole) (accepted tokens' errors' sorted' read' p' s' whole') =
       let same = one_list_of_tokens table kind.None text (length bytes) tokens tokens' errors errors' read read' in

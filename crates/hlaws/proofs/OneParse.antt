@@ -1,5 +1,5 @@
 -- The bytes of a document or of a fragment have exactly one tree and list of errors, or refusal.
-use Rattle.hlaws.proofs.Names.{◌≡◌, ℕ, false, List, [], ◌∷◌, ◌++◌, length, map, Option, None, Some, Result, Ok, Err, refl, sym, ap, ◌∙◌, subst, append-nil, IsPermutation, map-append, ParseError, Placed, RawKind, RefusedName, Refusal, OutOfProfile, input_errors, read_len, refusal_of, Tok, Span, Gives, at_start, start_kind, spans_text, Cut, has_refused, Tokens, AreFront, eof_of, texts, Outcome, Goes, Refused, PlacedToken, State, Step, Steps, and, HasAnswer, gives, refuses, one_list_of_tokens, no_tokens_of_refused, one_refusal, some_answer, reads_in, input_text, ParseOptions, fragment, Parse, Parses, manner, policy, start_of, refused_token, refused_tag, accepted, token_placed, ExactlyOne, in_order, order-permutes, order-sorted, IsRefused, tokens_in, tokens_of, refused, ParseCase, document, first_state, refused_bytes, OneParse}
+use Rattle.hlaws.proofs.Names.{◌≡◌, ℕ, false, List, [], ◌∷◌, ◌++◌, map, Option, None, Some, Result, Ok, Err, refl, sym, ap, ◌∙◌, subst, append-nil, IsPermutation, map-append, ParseError, Placed, RawKind, RefusedName, Refusal, OutOfProfile, input_errors, read_len, refusal_of, Tok, Span, Gives, at_start, start_kind, spans_text, Cut, has_refused, Tokens, AreFront, eof_of, texts, Outcome, Goes, Refused, PlacedToken, State, Step, Steps, and, HasAnswer, gives, refuses, one_list_of_tokens, no_tokens_of_refused, one_refusal, some_answer, reads_in, input_text, ParseOptions, fragment, Parse, Parses, manner, policy, start_of, refused_token, refused_tag, accepted, token_placed, ExactlyOne, in_order, order-permutes, order-sorted, IsRefused, tokens_in, tokens_of, refused, ParseCase, document, first_state, refused_bytes, OneParse}
 use Rattle.hmodes.specs.Reached.{Reached, after}
 use Rattle.hmodes.specs.Reached as reached
 use Rattle.hmodes.specs.Step.{none}
@@ -7,7 +7,7 @@ use Rattle.hmodes.proofs.Between.{texts-all, reached-orderly}
 use Rattle.hmodes.proofs.Ends.{some-step}
 use Rattle.hmodes.proofs.OfTable.{steps-one}
 use Rattle.htoken.proofs.OneFront.{one_front, one_front_of_refused}
-use Rattle.hlaws.proofs.OneInput.{all-read, one-list}
+use Rattle.hlaws.proofs.OneInput.{all-read, at-end, one-list}
 
 -- what refuses one of them refuses it whatever follows
 refused-more : (ts us : List (PlacedToken (List ℕ))) (s : State (List ℕ)) (r : Refusal) → Steps texts ts s (Refused r) → Steps texts (ts ++ us) s (Refused r)
@@ -55,9 +55,6 @@ module _ (opts : ParseOptions) (parse_case : ParseCase) (bytes : List ℕ) where
   led : (tokens tokens' : List Tok) (o : Outcome (State (List ℕ))) → tokens ≡ tokens' → Leads tokens o → Leads tokens' o
   led tokens tokens' o same h = subst (λ (ts : List Tok). Leads ts o) same h
 
-  at-end : {tokens : List Tok} {errors : List ParseError} → refusal_of (policy opts parse_case) bytes ≡ None → Tokens opts.table kind text (length bytes) tokens errors → Tokens opts.table kind text end tokens errors
-  at-end {tokens} {errors} whole read = subst (λ (n : ℕ). Tokens opts.table kind text n tokens errors) (sym (all-read (policy opts parse_case) bytes whole)) read
-
   -- the rules refuse tokens of the spans at the front of the text
   pub refused-front : (tokens others : List Tok) (spans : List Span) (rest : List Placed) (r : Refusal) → text ≡ spans_text spans ++ rest → Cut opts.table end (at_start kind) spans rest → has_refused (tokens_of spans) ≡ false
       → tokens ++ others ≡ tokens_of spans ++ eof_of end rest → Leads tokens (Refused r) → Parses opts parse_case bytes (Err r)
@@ -101,7 +98,7 @@ module _ (opts : ParseOptions) (parse_case : ParseCase) (bytes : List ℕ) where
         let same = one_refusal opts.table kind text end at' at name' name tokens' tokens out' out in
         record { outcome = Goes state; leads = led tokens' tokens (Goes state) same.2 steps; is = λ i. Err (OutOfProfile (same.0 i) (same.1 i)) }
     of-refused x (refused_bytes r errors state builds e) = absurd (no_tokens_of_refused opts.table kind text end at name builds.tokens tokens errors builds.read out)
-    of-refused x (accepted errors sorted state builds p s whole) = absurd (no_tokens_of_refused opts.table kind text end at name builds.tokens tokens errors (at-end whole builds.read) out)
+    of-refused x (accepted errors sorted state builds p s whole) = absurd (no_tokens_of_refused opts.table kind text end at name builds.tokens tokens errors (at-end (policy opts parse_case) bytes whole builds.read) out)
 
     exactly-refused : (o : Outcome (State (List ℕ))) × Leads tokens o → ExactlyOne (Parses opts parse_case bytes)
     exactly-refused (Goes state, steps) = only out_of_profile tokens of-refused (Err (OutOfProfile name at)) (refused_tag name at tokens state out steps)
@@ -130,7 +127,7 @@ module _ (opts : ParseOptions) (parse_case : ParseCase) (bytes : List ℕ) where
         let same = one_list_of_tokens opts.table kind text end builds.tokens tokens es errors builds.read read in
         record { outcome = Goes state; leads = led builds.tokens tokens (Goes state) same.0 builds.steps; is = ap (answer (Goes state)) (sym e) }
     of-tokens x (accepted es sorted state builds p s e) =
-        let same = one_list_of_tokens opts.table kind text end tokens builds.tokens errors es read (at-end e builds.read) in
+        let same = one_list_of_tokens opts.table kind text end tokens builds.tokens errors es read (at-end (policy opts parse_case) bytes e builds.read) in
         let all : List ParseError = all_errors state in
         let lists : sorted ≡ in_order all = one-list all sorted (in_order all)
         (subst (λ (x : List ParseError). IsPermutation (input_errors (reads_in (manner opts parse_case) bytes) ++ (x ++ state.site.errors)) sorted) (sym same.1) p) (order-permutes all) s (order-sorted all) in
