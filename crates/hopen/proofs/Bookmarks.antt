@@ -1,17 +1,15 @@
 -- When there is an entry of a node, and a bookmark stays in the list.
-use Rattle.hopen.proofs.Names.{arith, ◌≡◌, ℕ, true, false, IsTrue, not, eqb, List, [], ◌∷◌, Option, is_some, refl, ◌∙◌, list_any, option_map, not-true, Listed, marker, entry, entry_of, is_entry, has_bookmark, After, without, nat_tests}
+use Rattle.hopen.proofs.Names.{arith, ◌≡◌, ℕ, true, false, IsTrue, not, eqb, List, [], ◌∷◌, Option, is_some, refl, ◌∙◌, list_any, option_map, not-true, Listed, entry_of, is_entry, has_bookmark, After, without, nat_tests}
 
 module _ {N : Type 0} where
   pub any-is_entry : (n : ℕ) (items : List (Listed N)) → list_any (is_entry n) items ≡ is_some (entry_of n items)
   any-is_entry n [] = refl
-  any-is_entry n (marker ∷ items) = any-is_entry n items
-  any-is_entry n (entry e ∷ items) = grind (arith, any-is_entry n items)
+  any-is_entry n (i ∷ items) = grind (arith, any-is_entry n items)
 
   -- the entry of one node stays where that of another is taken from the list
   any-without : (n k : ℕ) → eqb k n ≡ false → (items : List (Listed N)) → list_any (is_entry n) (without (is_entry k) items) ≡ list_any (is_entry n) items
   any-without n k apart [] = refl
-  any-without n k apart (marker ∷ items) = any-without n k apart items
-  any-without n k apart (entry e ∷ items) = grind (arith, any-without n k apart items, nat_tests)
+  any-without n k apart (i ∷ items) = grind (arith, any-without n k apart items, nat_tests)
 
   -- a bookmark after the entry of another node stays in the list
   pub has_bookmark-after : (k n : ℕ) (items : List (Listed N)) → not (eqb k n) ≡ true → IsTrue (list_any (is_entry n) items)

@@ -1,5 +1,5 @@
 -- The holes of a list taken out, and the numbers of what is left.
-use Rattle.hopen.proofs.Names.{common_steps, ◌≡◌, ℕ, ◌+◌, ◌<◌, ◌≤◌, ◌==◌, Bool, true, false, not, cond, eqb, is_some, List, [], ◌∷◌, ◌++◌, length, get_or, take, drop, set, map, filter, refl, sym, ◌∙◌, ap, arith, subst, All, swap, not-true, append-nil, append_assoc, drop-map, drop-set-lt, length-append, length-take-le, map-append, take-map, swap_is, All-append, All-drop, All-get_or, All-head, All-tail, All-take, filter-append, entry_hash, none, EntryOf, IsStored, is_gone, item_of, AreListed, Option, DefaultHasher, by_hash, by_name, by_node, number_by, numbers_by, unless_hole, Stored, Slots, nat_tests, between, drop_more, get_or-append_right, take-set-le, take_more, between_more, length-swap, swapped_from_swap, All-filter, filter_passes}
+use Rattle.hopen.proofs.Names.{common_steps, ◌≡◌, ℕ, ◌+◌, ◌<◌, ◌≤◌, ◌==◌, Bool, true, false, not, eqb, is_some, List, [], ◌∷◌, ◌++◌, length, get_or, take, drop, set, map, filter, refl, ◌∙◌, ap, arith, All, swap, not-true, append-nil, append_assoc, drop-map, drop-set-lt, length-append, length-take-le, map-append, take-map, swap_is, All-append, All-drop, All-get_or, All-head, All-tail, All-take, filter-append, entry_hash, none, EntryOf, IsStored, is_gone, item_of, AreListed, Option, DefaultHasher, number_by, unless_hole, Stored, Slots, nat_tests, between, drop_more, get_or-append_right, take-set-le, take_more, between_more, length-swap, swapped_from_swap, All-filter, filter_passes}
 use Rattle.hopen.specs.declared.entry.Slot.TheVariants as stored
 use Rattle.hopen.proofs.Moved.{NoHoleFrom}
 
@@ -30,26 +30,22 @@ solid-closed : (items : List Stored) (from : ℕ) → from ≤ length items → 
 solid-closed items from h k above l x = grind (arith, length-take-le, length-append, not-true, get_or-append_right, All-get_or, filter_passes)
 
 -- what is kept of the list
-pub listed-closed : (from : ℕ) (old : Slots)
-    {new_names new_hashes new_nodes : List ℕ} {new_keys : Option DefaultHasher} {new_items : List Stored} {new_solid : ℕ}
-    → new_keys ≡ old.keys → from ≤ length old.items.items
+pub listed-closed : (from : ℕ) (old : Slots) {new_names new_hashes new_nodes : List ℕ} {new_keys : Option DefaultHasher} {new_items : List Stored}
+    {new_solid : ℕ} → new_keys ≡ old.keys → from ≤ length old.items.items
     → new_names ≡ take from old.names ++ filter (λ n. not (n == none)) (drop from old.names)
     → (is_some old.keys ≡ true → new_hashes ≡ take from old.hashes ++ filter (λ n. not (n == none)) (drop from old.hashes))
-    → new_nodes ≡ take from old.nodes ++ filter (λ n. not (n == none)) (drop from old.nodes)
-    → new_solid ≡ from → new_items ≡ closed old.items.items from → AreListed new_names new_hashes new_nodes new_keys new_items new_solid
-listed-closed from old {new_items = new_items} keys h names hashes nodes solid items =
-    let xs = old.items.items in
-    let kept = filter stays (drop from xs) in
+    → new_nodes ≡ take from old.nodes ++ filter (λ n. not (n == none)) (drop from old.nodes) → new_solid ≡ from → new_items ≡ closed old.items.items from
+    → AreListed new_names new_hashes new_nodes new_keys new_items new_solid
+listed-closed from old {new_items = new_items} keys h names hashes nodes solid items = let xs = old.items.items in let kept = filter stays (drop from xs) in
+    let rest = All-filter stays IsStored (drop from xs) (All-drop IsStored from xs old.listed.stored) in
+    let hash = numbers-closed (entry_hash old.keys) xs from old.hashes old.listed.stored in
     record {
-      names = names ∙ numbers-closed (λ e. e.name) xs from old.names old.listed.stored old.listed.names ∙ ap (numbers_by by_name) (sym items);
-      hashes = λ some. let there = ap is_some (sym keys) ∙ some in
-          hashes there ∙ numbers-closed (entry_hash old.keys) xs from old.hashes old.listed.stored (old.listed.hashes there)
-          ∙ (λ i. numbers_by (by_hash (sym keys i)) (sym items i));
-      nodes = nodes ∙ numbers-closed (λ e. e.node) xs from old.nodes old.listed.stored old.listed.nodes ∙ ap (numbers_by by_node) (sym items);
-      stored = subst (All IsStored) (sym items) (All-append IsStored (take from xs) kept (All-take IsStored from xs old.listed.stored)
-          (All-filter stays IsStored (drop from xs) (All-drop IsStored from xs old.listed.stored)));
+      names = grind (arith, names, numbers-closed (λ e. e.name) xs from old.names old.listed.stored old.listed.names, items);
+      hashes = λ some. grind (arith, hashes, keys, some, hash, old.listed.hashes, items);
+      nodes = grind (arith, nodes, numbers-closed (λ e. e.node) xs from old.nodes old.listed.stored old.listed.nodes, items);
+      stored = rw items (All-append IsStored (take from xs) kept (All-take IsStored from xs old.listed.stored) rest);
       within = omega (arith, solid, ap length items, length-append (take from xs) kept, length-take-le from xs h);
-      solid = subst (λ n. NoHoleFrom n new_items) (sym solid) (subst (NoHoleFrom from) (sym items) (solid-closed xs from h));
+      solid = rw (solid, items) (solid-closed xs from h);
     }
 
 -- How far the holes are taken out: what is left of the items before an index comes first, and those from it on are as they were.
@@ -68,10 +64,8 @@ module _ (from end index : ℕ) (old items : List Stored) (is : IsTaken from end
   next-same = grind (arith, common_steps, nat_tests, drop_more)
 
   kept-more : filter stays (between from (index + 1) old) ≡ filter stays (between from index old) ++ filter stays (next ∷ [])
-  kept-more =
-      ap (filter stays) (between_more old from index stored.Hole (omega (arith, is.above, is.below)) h)
-      ∙ filter-append stays (between from index old) (get_or old index stored.Hole ∷ [])
-      ∙ ap (λ x. filter stays (between from index old) ++ filter stays (x ∷ [])) (sym next-same.0)
+  kept-more = let more = between_more old from index stored.Hole (omega (arith, is.above, is.below)) h in
+      grind (arith, more, filter-append stays (between from index old) (get_or old index stored.Hole ∷ []), next-same)
 
   -- a hole is passed over
   pub taken-hole : is_gone next ≡ true → IsTaken from end (index + 1) old items
@@ -79,27 +73,17 @@ module _ (from end index : ℕ) (old items : List Stored) (is : IsTaken from end
 
   -- and what is none goes to the end of what is left
   pub taken-item : is_gone next ≡ false → IsTaken from (end + 1) (index + 1) old (swap items end index)
-  taken-item there =
-      let one : filter stays (next ∷ []) ≡ next ∷ [] = ap (λ v. cond (not v) (next ∷ []) []) there in
-      let last = get_or items end stored.Hole in
-      let low : end < length items = omega (arith, is.size, is.below) in
-      let high : index < length items = omega (arith, is.size) in
-      let new : set (set items end next) index last ≡ swap items end index = swap_is items end index stored.Hole low high in
-      let within : end < length (swap items end index) = omega (arith, length-swap items end index) in
-      let before : take end (swap items end index) ≡ take end items =
-      ap (take end) (sym new) ∙ take-set-le end (set items end next) index last is.below ∙ take-set-le end items end next (omega arith) in
-      let moved : get_or (swap items end index) end stored.Hole ≡ next = (swapped_from_swap items
-      (swap items end index) end index stored.Hole low high refl).0 in
+  taken-item there = let last = get_or items end stored.Hole in let low : end < length items = omega (arith, is.size, is.below) in
+      let high : index < length items = omega (arith, is.size) in let now = swap items end index in
+      let new : set (set items end next) index last ≡ now = swap_is items end index stored.Hole low high in
+      let before = take-set-le end (set items end next) index last is.below in let first = take-set-le end items end next (omega arith) in
+      let moved = (swapped_from_swap items now end index stored.Hole low high refl).0 in
+      let rest = drop-set-lt (index + 1) (set items end next) index last (omega arith) in
+      let tail = drop-set-lt (index + 1) items end next (omega (arith, is.below)) in
       record {
         above = omega (arith, is.above);
         below = omega (arith, is.below);
         size = length-swap items end index ∙ is.size;
-        taken =
-            take_more (swap items end index) end stored.Hole within ∙ (λ k. before k ++ moved k ∷ []) ∙ ap (λ l. l ++ next ∷ []) is.taken
-            ∙ append_assoc (take from old) (filter stays (between from index old)) (next ∷ [])
-            ∙ ap (λ l. take from old ++ l) (sym (kept-more ∙ ap (λ l. filter stays (between from index old) ++ l) one));
-        rest =
-            ap (drop (index + 1)) (sym new) ∙ drop-set-lt (index + 1) (set items end next) index last (omega arith)
-            ∙ drop-set-lt (index + 1) items end next (omega (arith, is.below))
-            ∙ next-same.1;
+        taken = grind (arith, take_more now end stored.Hole, length-swap items end index, new, before, first, moved, is.taken, append_assoc, kept-more, there);
+        rest = grind (arith, new, rest, tail, next-same);
       }

@@ -1,21 +1,18 @@
 -- The list of active formatting elements under other names.
-use Rattle.hopen.proofs.Names.{arith, ◌≡◌, ℕ, Bool, true, false, cond, not, ◌&&◌, List, [], ◌∷◌, map, length, Option, Some, None, refl, ◌∙◌, ap, bytes_eq, list_any, option_map, option_map_or, length-map, any-map, without, item_put_before, EntryOf, Listed, marker, entry, is_of_node, is_entry, entry_at, entry_of, after_marker, cleared, for_node, with_node, booked, without_earliest, same_attribute, are_among, is_equal, pushed, find_entry, Bookmark, InPlace, After, Attribute, if◌then◌else◌, filter, find, slice_get-map, without-map, changed-map, put_before-map, filter-map, find-map, all-map, changed_at-map, entries, mapped_entry, mapped_item, mapped_items, FormattingKnowsNoNames, mapped_attribute}
+use Rattle.hopen.proofs.Names.{arith, ◌≡◌, ℕ, Bool, not, ◌&&◌, List, [], ◌∷◌, map, length, Option, Some, None, refl, ◌∙◌, ap, bytes_eq, option_map, option_map_or, length-map, any-map, without, item_put_before, EntryOf, Listed, is_of_node, is_entry, entry_at, entry_of, after_marker, cleared, for_node, with_node, booked, without_earliest, same_attribute, are_among, is_equal, pushed, find_entry, Bookmark, InPlace, After, Attribute, filter, find, slice_get-map, without-map, changed-map, put_before-map, filter-map, find-map, all-map, changed_at-map, entries, mapped_entry, mapped_item, mapped_items, FormattingKnowsNoNames, mapped_attribute}
 
 module _ {N M : Type 0} (same : N → N → Bool) (same' : M → M → Bool) (g : N → M) (names : (a b : N) → same' (g a) (g b) ≡ same a b) where
   after_marker-map : (items : List (Listed N)) → after_marker (mapped_items g items) ≡ map (mapped_entry g) (after_marker items)
   after_marker-map [] = refl
-  after_marker-map (marker ∷ items) = refl
-  after_marker-map (entry e ∷ items) = ap (◌∷◌ (mapped_entry g e)) (after_marker-map items)
+  after_marker-map (i ∷ items) = grind (arith, after_marker-map items)
 
   entries-map : (items : List (Listed N)) → entries (mapped_items g items) ≡ map (mapped_entry g) (entries items)
   entries-map [] = refl
-  entries-map (marker ∷ items) = entries-map items
-  entries-map (entry e ∷ items) = ap (◌∷◌ (mapped_entry g e)) (entries-map items)
+  entries-map (i ∷ items) = grind (arith, entries-map items)
 
   cleared-map : (items : List (Listed N)) → cleared (mapped_items g items) ≡ mapped_items g (cleared items)
   cleared-map [] = refl
-  cleared-map (marker ∷ items) = refl
-  cleared-map (entry e ∷ items) = cleared-map items
+  cleared-map (i ∷ items) = grind (arith, cleared-map items)
 
   same_attribute-map : (a b : Attribute N) → same_attribute same' (mapped_attribute g a) (mapped_attribute g b) ≡ same_attribute same a b
   same_attribute-map a b = λ i. names a.0 b.0 i && bytes_eq a.1 b.1
@@ -29,28 +26,15 @@ module _ {N M : Type 0} (same : N → N → Bool) (same' : M → M → Bool) (g 
   without_earliest-map : (p : EntryOf N → Bool) (q : EntryOf M → Bool) → ((e : EntryOf N) → q (mapped_entry g e) ≡ p e) → (items : List (Listed N))
       → without_earliest q (mapped_items g items) ≡ mapped_items g (without_earliest p items)
   without_earliest-map p q f [] = refl
-  without_earliest-map p q f (marker ∷ items) = refl
-  without_earliest-map p q f (entry e ∷ items) =
-      (λ i. if f e i && not (later i) then mapped_items g items else entry (mapped_entry g e) ∷ without_earliest-map p q f items i)
-      ∙ go (p e && not (list_any p (after_marker items)))
-    where
-      later : list_any q (after_marker (mapped_items g items)) ≡ list_any p (after_marker items)
-      later = ap (list_any q) (after_marker-map items) ∙ any-map (mapped_entry g) p q f (after_marker items)
+  without_earliest-map p q f (i ∷ items) =
+      grind (arith, without_earliest-map p q f items, f, after_marker-map items, any-map (mapped_entry g) p q f (after_marker items))
 
-      go : (v : Bool) → cond v (mapped_items g items) (entry (mapped_entry g e) ∷ mapped_items g (without_earliest p items))
-          ≡ mapped_items g (cond v items (entry e ∷ without_earliest p items))
-      go true = refl
-      go false = refl
+  equal-map : (new : EntryOf N) (items : List (Listed N))
+      → length (filter (is_equal same' (mapped_entry g new)) (after_marker (mapped_items g items))) ≡ length (filter (is_equal same new) (after_marker items))
+  equal-map new items = let p = is_equal same new in
+      grind (arith, after_marker-map items, filter-map (mapped_entry g) p (is_equal same' (mapped_entry g new)) (is_equal-map new), length-map)
 
-  equal-map : (new : EntryOf N) (items : List (Listed N)) → length (filter (is_equal same' (mapped_entry g new)) (after_marker (mapped_items g items)))
-      ≡ length (filter (is_equal same new) (after_marker items))
-  equal-map new items =
-      ap (λ es. length (filter (is_equal same' (mapped_entry g new)) es)) (after_marker-map items)
-      ∙ ap length (filter-map (mapped_entry g) (is_equal same new) (is_equal same' (mapped_entry g new)) (is_equal-map new) (after_marker items))
-      ∙ length-map (filter (is_equal same new) (after_marker items)) (mapped_entry g)
-
-  pushed-map : (new : EntryOf N) (items : List (Listed N)) → pushed same' (mapped_entry g new) (mapped_items g items)
-      ≡ mapped_items g (pushed same new items)
+  pushed-map : (new : EntryOf N) (items : List (Listed N)) → pushed same' (mapped_entry g new) (mapped_items g items) ≡ mapped_items g (pushed same new items)
   pushed-map new items = grind (arith, equal-map, without_earliest-map, is_equal-map)
 
   find_entry-map : (a : N) (items : List (Listed N)) → find_entry same' (g a) (mapped_items g items) ≡ option_map (mapped_entry g) (find_entry same a items)
@@ -69,27 +53,26 @@ module _ {N M : Type 0} (same : N → N → Bool) (same' : M → M → Bool) (g 
   for_node-map new i = grind arith
 
   with_node-map : (old new : ℕ) (items : List (Listed N)) → with_node old new (mapped_items g items) ≡ mapped_items g (with_node old new items)
-  with_node-map old new items = changed-map (mapped_item g) (is_entry old) (is_entry old) (is_entry-map old) (for_node new) (for_node new)
-      (for_node-map new) items
+  with_node-map old new items =
+      changed-map (mapped_item g) (is_entry old) (is_entry old) (is_entry-map old) (for_node new) (for_node new) (for_node-map new) items
 
-  booked-map : (old new : ℕ) (bookmark : Bookmark) (items : List (Listed N)) → booked old new bookmark (mapped_items g items)
-      ≡ mapped_items g (booked old new bookmark items)
+  booked-map : (old new : ℕ) (bookmark : Bookmark) (items : List (Listed N))
+      → booked old new bookmark (mapped_items g items) ≡ mapped_items g (booked old new bookmark items)
   booked-map old new InPlace items = with_node-map old new items
   booked-map old new (After n) items =
-      (λ i. option_map_or (λ x. item_put_before (is_entry n) (for_node new x) (left i)) (found i) (mapped_items g items)) ∙ go (find (is_entry old) items)
-    where
-      left : without (is_entry old) (mapped_items g items) ≡ mapped_items g (without (is_entry old) items)
-      left = without-map (mapped_item g) (is_entry old) (is_entry old) (is_entry-map old) items
+      (λ i. option_map_or (λ x. item_put_before (is_entry n) (for_node new x) (left i)) (found i) (mapped_items g items)) ∙ go (find (is_entry old) items) where
+        left : without (is_entry old) (mapped_items g items) ≡ mapped_items g (without (is_entry old) items)
+        left = without-map (mapped_item g) (is_entry old) (is_entry old) (is_entry-map old) items
 
-      found : find (is_entry old) (mapped_items g items) ≡ option_map (mapped_item g) (find (is_entry old) items)
-      found = find-map (mapped_item g) (is_entry old) (is_entry old) (is_entry-map old) items
+        found : find (is_entry old) (mapped_items g items) ≡ option_map (mapped_item g) (find (is_entry old) items)
+        found = find-map (mapped_item g) (is_entry old) (is_entry old) (is_entry-map old) items
 
-      go : (o : Option (Listed N)) → option_map_or (λ x. item_put_before (is_entry n) (for_node new x) (mapped_items g (without (is_entry old) items)))
-          (option_map (mapped_item g) o) (mapped_items g items)
-          ≡ mapped_items g (option_map_or (λ x. item_put_before (is_entry n) (for_node new x) (without (is_entry old) items)) o items)
-      go None = refl
-      go (Some x) = ap (λ y. item_put_before (is_entry n) y (mapped_items g (without (is_entry old) items))) (for_node-map new x)
-          ∙ put_before-map (mapped_item g) (is_entry n) (is_entry n) (is_entry-map n) (for_node new x) (without (is_entry old) items)
+        go : (o : Option (Listed N))
+            → option_map_or (λ x. item_put_before (is_entry n) (for_node new x) (mapped_items g (without (is_entry old) items))) (option_map (mapped_item g) o)
+            (mapped_items g items) ≡ mapped_items g (option_map_or (λ x. item_put_before (is_entry n) (for_node new x) (without (is_entry old) items)) o items)
+        go None = refl
+        go (Some x) = ap (λ y. item_put_before (is_entry n) y (mapped_items g (without (is_entry old) items))) (for_node-map new x)
+            ∙ put_before-map (mapped_item g) (is_entry n) (is_entry n) (is_entry-map n) (for_node new x) (without (is_entry old) items)
 
   pub formatting_mapped : FormattingKnowsNoNames same same' g
   formatting_mapped = record {

@@ -1,6 +1,6 @@
 -- A table of the levels where numbers are last, and what the members of their list keep, as members come and go.
-use Rattle.hopen.proofs.Names.{common_steps, eq-eqb, ne_eqb, ◌≡◌, ◌≢◌, ℕ, zero, suc, ◌<◌, ◌≤◌, eqb, Bool, true, cond, List, [], ◌∷◌, length, map, reverse, get_or, set, inl, inr, refl, sym, ◌∙◌, ap, subst, arith, cases_Bool, cases_eq, cases_lt, eqb-suc-zero, eqb-zero-suc, get_or-set_same, get_or-set_other, get_or_past, length-map, last_up, last_place, last_same, up-sought, up-other, up-alike, IsLinked, IsLinkedTo, nat_tests, reverse-map}
-use Rattle.hopen.proofs.IndexSteps.{last-is}
+use Rattle.hopen.proofs.Names.{◌-◌, common_steps, eq-eqb, ne_eqb, ◌≡◌, ◌≢◌, ℕ, suc, ◌<◌, ◌≤◌, eqb, Bool, true, cond, List, [], ◌∷◌, length, map, reverse, get_or, set, inl, inr, refl, sym, ◌∙◌, ap, subst, arith, cases_Bool, cases_eq, cases_lt, eqb-suc-zero, eqb-zero-suc, get_or-set_same, get_or-set_other, get_or_past, length-map, last_up, last_place, last_same, up-sought, up-other, up-alike, IsLinked, IsLinkedTo, nat_tests, reverse-map}
+use Rattle.hopen.proofs.Listed.{last-is}
 
 pub eqb-same : (n : ℕ) → eqb n n ≡ true
 eqb-same n = eq-eqb n n refl
@@ -24,18 +24,11 @@ module _ (ns : List ℕ) (j : ℕ) where
 
 -- it keeps the same in a list that begins alike
 pub same-alike : (ns ms : List ℕ) (j : ℕ) → ((m : ℕ) → m ≤ j → get_or ms m 0 ≡ get_or ns m 0) → last_same ms j ≡ last_same ns j
-same-alike ns ms j same =
-    let at : ℕ = get_or ns j 0 in
-    ap (λ m. cond (eqb m 0) 0 (last_up (λ n. eqb n m) ms j)) (same j (omega arith))
-    ∙ ap (cond (eqb at 0) 0) (up-alike (λ n. eqb n at) ns ms j (λ m less. ap (λ n. eqb n at) (same m (omega arith))))
+same-alike ns ms j same = let up = up-alike (λ n. eqb n (get_or ns j 0)) ns ms j in grind (arith, same, up)
 
 -- what holds of the holes and of the members with a number is so of all
 pub same-from : (ns : List ℕ) (j p : ℕ) → (get_or ns j 0 ≡ 0 → p ≡ 0) → ((k : ℕ) → get_or ns j 0 ≡ suc k → p ≡ last_up (numbered k) ns j) → p ≡ last_same ns j
-same-from ns j p hole member = go (get_or ns j 0) refl
-  where
-    go : (m : ℕ) → get_or ns j 0 ≡ m → p ≡ last_same ns j
-    go zero e = hole e ∙ sym (same-hole ns j e)
-    go (suc k) e = member k e ∙ sym (same-member ns j k e)
+same-from ns j p hole member = let k = get_or ns j 0 - 1 in grind (arith, nat_tests, same-hole ns j, same-member ns j k, hole, member k)
 
 module _ (t ns bs : List ℕ) (l : IsLinked t ns bs) (j : ℕ) (within : j < length ns) where
   pub kept-hole : get_or ns j 0 ≡ 0 → get_or bs j 0 ≡ 0
@@ -88,10 +81,10 @@ module _ (t ns bs : List ℕ) (n : ℕ) where
       linked-less = grind (arith, common_steps, nat_tests, either, get_or-set_other, get_or-set_same, linked-in, same-member, up-apart)
 
 -- the same in the words of the nearest first
-pub place-map : {X Y : Type 0} (f : X → Y) (s : Y → Bool) (xs : List X) → last_place s (map f xs) ≡ last_place (λ x. s (f x)) xs
-place-map f s [] = refl
-place-map f s (x ∷ xs) = λ i. cond (s (f x)) (suc (length-map xs f i)) (place-map f s xs i)
+pub ordinal-map : {X Y : Type 0} (f : X → Y) (s : Y → Bool) (xs : List X) → last_place s (map f xs) ≡ last_place (λ x. s (f x)) xs
+ordinal-map f s [] = refl
+ordinal-map f s (x ∷ xs) = λ i. cond (s (f x)) (suc (length-map xs f i)) (ordinal-map f s xs i)
 
-pub says-levels : {X : Type 0} (f : X → ℕ) (t bs : List ℕ) (ys : List X) → IsLinked t (map f ys) bs
-    → (k : ℕ) → get_or t k 0 ≡ last_place (λ x. eqb (f x) (suc k)) (reverse ys)
-says-levels f t bs ys l k = l.says k ∙ last-is (suc k) (map f ys) ∙ ap (last_place (numbered k)) (reverse-map f ys) ∙ place-map f (numbered k) (reverse ys)
+pub says-levels : {X : Type 0} (f : X → ℕ) (t bs : List ℕ) (ys : List X) → IsLinked t (map f ys) bs → (k : ℕ)
+    → get_or t k 0 ≡ last_place (λ x. eqb (f x) (suc k)) (reverse ys)
+says-levels f t bs ys l k = l.says k ∙ last-is (suc k) (map f ys) ∙ ap (last_place (numbered k)) (reverse-map f ys) ∙ ordinal-map f (numbered k) (reverse ys)

@@ -1,13 +1,13 @@
 -- Exchanges in a list and what a run of them does; an entry that becomes that of another node, and where an entry
 -- is among the others.
-use Rattle.hopen.proofs.Names.{common_steps, map-set_same, ◌≡◌, ◌≢◌, ℕ, zero, suc, ◌+◌, ◌-◌, ◌<◌, ◌≤◌, ◌==◌, ◌⊎◌, inl, Bool, true, false, IsTrue, List, [], ◌∷◌, ◌++◌, Option, Some, is_some, length, get_or, set, take, drop, map, reverse, refl, sym, ◌∙◌, ap, arith, subst, All, insert, list_any, position, remove, swap, swap_is, length-swap, drop-set-lt, get_or-map, get_or-set_other, length-append, length-reverse, length-set, length-take-le, map-set, reverse-append, All-get_or, All-set, last_up, none, EntryOf, for_node, is_entry, IsStored, is_gone, item_of, listed_items, nowhere, moved_entry, stored_entry, DefaultHasher, AreListed, by_hash, by_name, by_node, number_by, numbers_by, changed_at, item_put_before, last_place, Stored, Slots, reverse-map, set_nearest, last_place-le, nat_tests, get_or-set_same, set-set, take-set, insert_nearest, position_nearest, position-none, position-some}
+use Rattle.hopen.proofs.Names.{Listed, common_steps, map-set_same, ◌≡◌, ◌≢◌, ℕ, zero, suc, ◌+◌, ◌-◌, ◌<◌, ◌≤◌, ◌==◌, ◌⊎◌, inl, Bool, true, false, IsTrue, List, [], ◌∷◌, ◌++◌, Option, Some, is_some, length, get_or, set, take, drop, map, reverse, refl, sym, ◌∙◌, ap, arith, subst, All, insert, list_any, position, remove, swap, swap_is, length-swap, drop-set-lt, get_or-map, get_or-set_other, length-append, length-reverse, length-set, length-take-le, map-set, reverse-append, All-get_or, All-set, last_up, none, EntryOf, for_node, is_entry, IsStored, is_gone, item_of, listed_items, nowhere, moved_entry, stored_entry, DefaultHasher, AreListed, by_hash, by_name, by_node, number_by, numbers_by, changed_at, item_put_before, last_place, Stored, Slots, reverse-map, set_nearest, last_place-le, nat_tests, get_or-set_same, set-set, take-set, insert_nearest, position_nearest, position-none, position-some, false≢true, cases_lt, append-nil, All-append, All-drop, All-take, AreSlots, is_listed_hole, live}
 use Rattle.hopen.specs.declared.entry.Slot.TheVariants as stored
 use Rattle.hopen.proofs.ExchangedSlots.{reverse-set}
-use Rattle.hopen.proofs.Holes.{node-is, slots-are}
-use Rattle.hopen.proofs.IndexSteps.{last-is, last_of}
-use Rattle.hopen.proofs.ItemLists.{not_missing}
-use Rattle.hopen.proofs.Linked.{place-map}
-use Rattle.hopen.proofs.Listed.{numbers-back}
+use Rattle.hopen.proofs.Holes.{node-is, slots-are, gone-is, live-parts}
+use Rattle.hopen.proofs.Listed.{last-is, not_missing, numbers-back}
+use Rattle.hopen.proofs.Linked.{ordinal-map}
+use Rattle.hopen.specs.declared.entry.Slot.TheVariants as stored
+use Rattle.hopen.proofs.Live.{any-live, is_hole-for_node, spares-node, put_spared}
 
 -- the members at two indexes in each other's place
 abbrev pub exchanged : {X : Type 0} → List X → (i j : ℕ) → X → List X
@@ -59,21 +59,20 @@ NoHoleFrom from items = (i : ℕ) → from ≤ i → i < length items → (x : S
 module _ (i j : ℕ) (old : Slots) (low : i < length old.items.items) (high : j < length old.items.items) where
   numbers-exchanged : (of : EntryOf ℕ → ℕ) (numbers : List ℕ) → numbers ≡ numbers_by of old.items.items
       → exchanged numbers i j 0 ≡ numbers_by of (exchanged old.items.items i j stored.Hole)
-  numbers-exchanged of numbers are = ap (λ ns. exchanged ns i j 0) are ∙ sym (map-exchanged
-      (λ x. number_by of (item_of x)) old.items.items i j stored.Hole 0 low high)
+  numbers-exchanged of numbers are = grind (arith, are, map-exchanged (λ x. number_by of (item_of x)) old.items.items i j stored.Hole 0 low high)
 
   module _ {new_names new_hashes new_nodes : List ℕ} {new_keys : Option DefaultHasher} {new_items : List Stored} {new_solid : ℕ} where
     pub listed-exchanged : new_keys ≡ old.keys → new_names ≡ exchanged old.names i j 0 → (is_some old.keys ≡ true → new_hashes ≡ exchanged old.hashes i j 0)
-        → new_nodes ≡ exchanged old.nodes i j 0
-        → new_items ≡ swap old.items.items i j → (old.solid ≤ new_solid) × (i < new_solid) × (j < new_solid) × (new_solid ≤ length old.items.items)
+        → new_nodes ≡ exchanged old.nodes i j 0 → new_items ≡ swap old.items.items i j
+        → (old.solid ≤ new_solid) × (i < new_solid) × (j < new_solid) × (new_solid ≤ length old.items.items)
         → AreListed new_names new_hashes new_nodes new_keys new_items new_solid
-    listed-exchanged keys names hashes nodes items bounds =
-        let xs = old.items.items in
+    listed-exchanged keys names hashes nodes items bounds = let xs = old.items.items in
         let now : new_items ≡ exchanged xs i j stored.Hole = items ∙ sym (swap_is xs i j stored.Hole low high) in
         let size : length new_items ≡ length xs = ap length items ∙ length-swap xs i j in
         record {
           names = names ∙ numbers-exchanged by_name old.names old.listed.names ∙ ap (numbers_by by_name) (sym now);
-          hashes = λ some. let there = ap is_some (sym keys) ∙ some in
+          hashes = λ some.
+              let there = ap is_some (sym keys) ∙ some in
               hashes there ∙ numbers-exchanged (by_hash old.keys) old.hashes (old.listed.hashes there) ∙ (λ k. numbers_by (by_hash (sym keys k)) (sym now k));
           nodes = nodes ∙ numbers-exchanged by_node old.nodes old.listed.nodes ∙ ap (numbers_by by_node) (sym now);
           stored = subst (All IsStored) (sym now) (All-exchanged IsStored xs i j stored.Hole low high old.listed.stored);
@@ -118,34 +117,28 @@ module _ (node : ℕ) where
 
     -- its place in the list, as that is seen from the last item on
     pub renewed-items : listed_items now ≡ changed_at (length items - 1 - i) (for_node node) (listed_items items)
-    renewed-items = set_nearest item_of (for_node node) items i (length items - 1 - i) stored.Hole (moved_entry node there) (omega arith) (renamed-item there some)
+    renewed-items =
+        set_nearest item_of (for_node node) items i (length items - 1 - i) stored.Hole (moved_entry node there) (omega arith) (renamed-item there some)
 
 -- what is kept of the list stays so
-pub listed-renewed : (node i : ℕ) (old : Slots)
-    {new_names new_hashes new_nodes : List ℕ} {new_keys : Option DefaultHasher} {new_items : List Stored} {new_solid : ℕ}
-    → new_keys ≡ old.keys → i < length old.items.items
-    → is_some (stored_entry (get_or old.items.items i stored.Hole)) ≡ true → node < nowhere
+pub listed-renewed : (node i : ℕ) (old : Slots) {new_names new_hashes new_nodes : List ℕ} {new_keys : Option DefaultHasher} {new_items : List Stored}
+    {new_solid : ℕ} → new_keys ≡ old.keys → i < length old.items.items → is_some (stored_entry (get_or old.items.items i stored.Hole)) ≡ true → node < nowhere
     → new_names ≡ old.names → new_hashes ≡ old.hashes → new_nodes ≡ set (set old.nodes i none) i (suc (suc node)) → new_solid ≡ old.solid
-    → new_items ≡ set old.items.items i (moved_entry node (get_or old.items.items i stored.Hole)) → AreListed new_names new_hashes new_nodes new_keys new_items new_solid
-listed-renewed node i old {new_items = new_items} keys h some low names hashes nodes solid items =
-    let xs = old.items.items in
-    let x = get_or xs i stored.Hole in
-    let stored : IsStored x = All-get_or IsStored xs i stored.Hole h old.listed.stored in
-    let ns : set (set old.nodes i none) i (suc (suc node)) ≡ numbers_by by_node (set xs i (moved_entry node x)) =
-    set-set old.nodes i none (suc (suc node)) ∙ ap (λ l. set l i (suc (suc node))) old.listed.nodes
-    ∙ ap (set (numbers_by by_node xs) i) (sym (renamed-node node x some stored))
-    ∙ sym (map-set (λ y. number_by by_node (item_of y)) xs i (moved_entry node x)) in
+    → new_items ≡ set old.items.items i (moved_entry node (get_or old.items.items i stored.Hole))
+    → AreListed new_names new_hashes new_nodes new_keys new_items new_solid
+listed-renewed node i old {new_items = new_items} keys h some low names hashes nodes solid items = let xs = old.items.items in
+    let x = get_or xs i stored.Hole in let stored : IsStored x = All-get_or IsStored xs i stored.Hole h old.listed.stored in
+    let name = same-by node xs i h some (λ y. number_by by_name (item_of y)) (renamed-name node x) in
+    let hash = same-by node xs i h some (λ y. number_by (by_hash old.keys) (item_of y)) (renamed-hash node old.keys x) in
+    let put = map-set (λ (y : Stored). number_by by_node (item_of y)) xs i (moved_entry node x) in
+    let twice = set-set old.nodes i none (suc (suc node)) in
     record {
-      names = names ∙ old.listed.names ∙ sym (same-by node xs i h some (λ y. number_by by_name (item_of y)) (renamed-name node x))
-          ∙ ap (numbers_by by_name) (sym items);
-      hashes = λ there. hashes ∙ old.listed.hashes (ap is_some (sym keys) ∙ there) ∙ sym (same-by node xs i h some
-          (λ y. number_by (by_hash old.keys) (item_of y)) (renamed-hash node old.keys x))
-          ∙ (λ j. numbers_by (by_hash (sym keys j)) (sym items j));
-      nodes = nodes ∙ ns ∙ ap (numbers_by by_node) (sym items);
-      stored = subst (All IsStored) (sym items) (All-set IsStored xs i (moved_entry node x) (renamed-stored node x low stored) old.listed.stored);
+      names = grind (arith, names, old.listed.names, name, items);
+      hashes = λ there. grind (arith, hashes, old.listed.hashes, keys, there, hash, items);
+      nodes = grind (arith, nodes, twice, old.listed.nodes, renamed-node node x some stored, put, items);
+      stored = rw items (All-set IsStored xs i (moved_entry node x) (renamed-stored node x low stored) old.listed.stored);
       within = omega (arith, solid, ap length items, length-set xs i (moved_entry node x), old.listed.within);
-      solid = subst (λ n. NoHoleFrom n new_items) (sym solid) (subst (NoHoleFrom old.solid) (sym items)
-          (renewed-solid node xs i h some old.solid old.listed.solid));
+      solid = rw (solid, items) (renewed-solid node xs i h some old.solid old.listed.solid);
     }
 
 -- what is in one list and in that list without a member that is not sought
@@ -157,14 +150,14 @@ module _ {X : Type 0} (sought : X → Bool) where
   around [] far x other = inl (rw other refl, last_place-le sought far)
   around (y ∷ near) far x other = grind (arith, around near far x other, length-append)
 
-  -- the place without the member at an index, from that in a list where one that is not sought is there
-  pub record IsPlaceWithout (xs : List X) (i place : ℕ) : Type 0 where
-    pub below : place ≤ i → place ≡ last_place sought (reverse (remove xs i))
-    pub above : i < place → place - 1 ≡ last_place sought (reverse (remove xs i))
+  -- the ordinal without the member at an index, from that in a list where one that is not sought is there
+  pub record IsPlaceWithout (xs : List X) (i ordinal : ℕ) : Type 0 where
+    pub below : ordinal ≤ i → ordinal ≡ last_place sought (reverse (remove xs i))
+    pub above : i < ordinal → ordinal - 1 ≡ last_place sought (reverse (remove xs i))
 
-  pub place-without : (xs : List X) (i place : ℕ) (d : X) → i < length xs → sought d ≡ false → place ≡ last_place sought (reverse (set xs i d))
-      → IsPlaceWithout xs i place
-  place-without xs i place d h other is = grind (arith, reverse-set, reverse-append, length-reverse, length-take-le, around)
+  pub ordinal-without : (xs : List X) (i ordinal : ℕ) (d : X) → i < length xs → sought d ≡ false → ordinal ≡ last_place sought (reverse (set xs i d))
+      → IsPlaceWithout xs i ordinal
+  ordinal-without xs i ordinal d h other is = grind (arith, reverse-set, reverse-append, length-reverse, length-take-le, around)
 
 module _ (mark : ℕ) (low : mark < nowhere) where
   -- whether a stored item is the entry of the mark
@@ -175,30 +168,23 @@ module _ (mark : ℕ) (low : mark < nowhere) where
   no-hole = grind (arith, nat_tests)
 
   -- what the numbers say, where that at an index is cleared
-  pub mark-place : (xs : List Stored) (ns : List ℕ) (i place : ℕ) → i < length xs → All IsStored xs → ns ≡ numbers_by by_node xs
-      → place ≡ last_up (λ k. k == suc (suc mark)) (set ns i none) (length (set ns i none)) → IsPlaceWithout is_mark xs i place
-  mark-place xs ns i place h all are is =
-      let ys = set xs i stored.Hole in
-      let cleared : set ns i none ≡ numbers_by by_node ys = ap (λ l. set l i none) are ∙ sym (map-set (λ x. number_by by_node (item_of x)) xs i stored.Hole) in
-      place-without is_mark xs i place stored.Hole h no-hole
-      (is ∙ ap (λ l. last_up (λ k. k == suc (suc mark)) l (length l)) cleared ∙ last-is (suc (suc mark)) (numbers_by by_node ys)
-      ∙ ap (last_of (suc (suc mark))) (numbers-back by_node ys) ∙ node-is mark low (listed_items ys) (slots-are ys (All-set IsStored xs i stored.Hole tt all))
-      ∙ ap (last_place (is_entry mark)) (reverse-map item_of ys) ∙ place-map item_of (is_entry mark) (reverse ys))
+  pub mark-ordinal : (xs : List Stored) (ns : List ℕ) (i ordinal : ℕ) → i < length xs → All IsStored xs → ns ≡ numbers_by by_node xs
+      → ordinal ≡ last_up (λ k. k == suc (suc mark)) (set ns i none) (length (set ns i none)) → IsPlaceWithout is_mark xs i ordinal
+  mark-ordinal xs ns i ordinal h all are is = let ys = set xs i stored.Hole in let f : Stored → ℕ = λ x. number_by by_node (item_of x) in
+      let place = node-is mark low (listed_items ys) (slots-are ys (All-set IsStored xs i stored.Hole tt all)) in
+      let last = last-is (suc (suc mark)) (numbers_by by_node ys) in let turned = ordinal-map item_of (is_entry mark) (reverse ys) in
+      ordinal-without is_mark xs i ordinal stored.Hole h no-hole
+      (grind (arith, map-set f xs i stored.Hole, last, numbers-back by_node ys, place, reverse-map item_of ys, turned))
 
 -- an item that is put right after the entry of the mark
 pub insert-after : (mark : ℕ) (rest : List Stored) (y : Stored) (to : ℕ) → to ≡ last_place (λ x. is_entry mark (item_of x)) (reverse rest)
-    → IsTrue (list_any (is_entry mark) (listed_items rest))
-    → listed_items (insert rest to y) ≡ item_put_before (is_entry mark) (item_of y) (listed_items rest)
-insert-after mark rest y zero is there =
-    absurd (not_missing mark rest there (position_nearest item_of (is_entry mark) rest
-    ∙ position-none (λ x. is_entry mark (item_of x)) (reverse rest) (sym is)))
-insert-after mark rest y (suc i) is there =
-    let found : position (is_entry mark) (listed_items rest) ≡ Some (length (reverse rest) - 1 - i) = position_nearest item_of (is_entry mark) rest
-    ∙ position-some (λ x. is_entry mark (item_of x)) (reverse rest) i (sym is) in
-    let next : suc i ≡ i + 1 = omega arith in
-    ap (λ n. listed_items (insert rest n y)) next
-    ∙ insert_nearest item_of (is_entry mark) rest i (length (reverse rest) - 1 - i) y found
-    (omega (arith, length-reverse rest, last_place-le (λ x. is_entry mark (item_of x)) (reverse rest)))
+    → IsTrue (list_any (is_entry mark) (listed_items rest)) → listed_items (insert rest to y) ≡ item_put_before (is_entry mark) (item_of y) (listed_items rest)
+insert-after mark rest y zero is there = let none = position-none (λ x. is_entry mark (item_of x)) (reverse rest) in
+    absurd (not_missing mark rest there (grind (arith, position_nearest item_of (is_entry mark) rest, none)))
+insert-after mark rest y (suc i) is there = let s : Stored → Bool = λ x. is_entry mark (item_of x) in let back = length (reverse rest) - 1 - i in
+    let found : position (is_entry mark) (listed_items rest) ≡ Some back = grind
+    (arith, position_nearest item_of (is_entry mark) rest, position-some s (reverse rest) i) in
+    grind (arith, insert_nearest item_of (is_entry mark) rest i back y found, length-reverse rest, last_place-le s (reverse rest))
 
 -- a write where the member is taken out
 pub remove-set : {X : Type 0} (xs : List X) (i : ℕ) (y : X) → remove (set xs i y) i ≡ remove xs i
@@ -206,8 +192,50 @@ remove-set xs i y = ap (λ l. l ++ drop (suc i) (set xs i y)) (take-set xs i y) 
 
 -- an entry that becomes that of another node, and is put right after the entry of the mark
 pub moved-after : (node mark : ℕ) (items : List Stored) (i to : ℕ) (y : Stored) → i < length items → is_some (stored_entry (get_or items i stored.Hole)) ≡ true
-    → y ≡ moved_entry node (get_or items i stored.Hole)
-    → to ≡ last_place (λ x. is_entry mark (item_of x)) (reverse (remove items i)) → IsTrue (list_any (is_entry mark) (listed_items (remove items i)))
+    → y ≡ moved_entry node (get_or items i stored.Hole) → to ≡ last_place (λ x. is_entry mark (item_of x)) (reverse (remove items i))
+    → IsTrue (list_any (is_entry mark) (listed_items (remove items i)))
     → listed_items (insert (remove (set items i y) i) to (get_or (set items i y) i stored.Hole))
     ≡ item_put_before (is_entry mark) (for_node node (item_of (get_or items i stored.Hole))) (listed_items (remove items i))
 moved-after node mark items i to y within entry new is there = grind (arith, common_steps, nat_tests, get_or-set_same, insert-after, remove-set, renamed-item)
+
+-- An entry that jumps to where a hole is, and leaves one.
+
+-- a hole is before the index from which on there is none
+pub hole-before : (xs : List Stored) (solid i : ℕ) → NoHoleFrom solid xs → i < length xs → is_gone (get_or xs i stored.Hole) ≡ true → i < solid
+hole-before xs solid i none within gone = grind (arith, common_steps, nat_tests, cases_lt, false≢true)
+
+-- nothing is lost with a hole
+without-hole : (xs : List Stored) (i : ℕ) → i < length xs → is_gone (get_or xs i stored.Hole) ≡ true
+    → live (listed_items (remove xs i)) ≡ live (listed_items xs)
+without-hole [] i within gone = absurd (omega arith)
+without-hole (x ∷ xs) zero within gone = grind (arith, live-parts (x ∷ []) xs, append-nil)
+without-hole (x ∷ xs) (suc i) within gone = grind (arith, live-parts (x ∷ []) (remove xs i), without-hole xs i, live-parts (x ∷ []) xs)
+
+-- where an entry and a hole after it are exchanged, the others are as they were
+pub jumped-rest : (xs : List Stored) (i j : ℕ) → i < j → j < length xs → is_gone (get_or xs j stored.Hole) ≡ true
+    → live (listed_items (remove (exchanged xs i j stored.Hole) j)) ≡ live (listed_items (remove xs i))
+jumped-rest xs i j above within gone = let y = get_or xs j stored.Hole in let left = set xs i y in let other = get_or-set_other xs i j y stored.Hole in
+    let here = get_or-set_same xs i y stored.Hole in let size = length-set xs i y in
+    grind (arith, remove-set left j (get_or xs i stored.Hole), without-hole left j, without-hole left i, other, here, size, remove-set xs i y)
+
+stored_entry-there : (x : Stored) → is_some (stored_entry x) ≡ true → is_gone x ≡ false
+stored_entry-there x some = grind arith
+
+-- where the others are as they were, so is what comes after the mark
+module _ (mark : ℕ) (low : mark < nowhere) (xs ys : List Stored) (i j : ℕ) (old : All IsStored xs) (new : All IsStored ys)
+    (same : live (listed_items (remove ys j)) ≡ live (listed_items (remove xs i))) where
+  others : (zs : List Stored) (k : ℕ) → All IsStored zs → AreSlots (listed_items (remove zs k))
+  others zs k all = slots-are (remove zs k) (All-append IsStored (take k zs) (drop (suc k) zs) (All-take IsStored k zs all) (All-drop IsStored (suc k) zs all))
+
+  pub any-same : list_any (is_entry mark) (listed_items (remove ys j)) ≡ list_any (is_entry mark) (listed_items (remove xs i))
+  any-same = sym (any-live mark (listed_items (remove ys j)) (others ys j new) low) ∙ ap (list_any (is_entry mark)) same
+      ∙ any-live mark (listed_items (remove xs i)) (others xs i old) low
+
+  pub put-same : (node : ℕ) → is_some (stored_entry (get_or xs i stored.Hole)) ≡ true → i < length xs
+      → live (item_put_before (is_entry mark) (for_node node (item_of (get_or xs i stored.Hole))) (listed_items (remove ys j)))
+      ≡ live (item_put_before (is_entry mark) (for_node node (item_of (get_or xs i stored.Hole))) (listed_items (remove xs i)))
+  put-same node some within = let x = get_or xs i stored.Hole in let item = for_node node (item_of x) in let is = stored_entry-there x some in
+      let kept = All-get_or IsStored xs i stored.Hole within old in
+      let real : is_listed_hole item ≡ false = grind (arith, is_hole-for_node node (item_of x), gone-is x kept, is) in
+      let put = λ (zs : List (Listed ℕ)) (slots : AreSlots zs). put_spared (is_entry mark) item real zs (spares-node mark zs slots low) in
+      grind (arith, put (listed_items (remove ys j)) (others ys j new), put (listed_items (remove xs i)) (others xs i old), same)

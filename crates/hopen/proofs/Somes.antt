@@ -4,20 +4,17 @@ use Rattle.hopen.proofs.Names.{◌≡◌, ◌≢◌, suc, ◌≤◌, Bool, ◌&&
 module _ {X : Type 0} where
   pub length-somes : (zs : List (Option X)) → length (somes zs) ≤ length zs
   length-somes [] = omega arith
-  length-somes (None ∷ zs) = omega (arith, length-somes zs)
-  length-somes (Some x ∷ zs) = omega (arith, length-somes zs)
+  length-somes (z ∷ zs) = grind (arith, length-somes zs)
 
   pub somes-append : (xs ys : List (Option X)) → somes (xs ++ ys) ≡ somes xs ++ somes ys
   somes-append [] ys = refl
-  somes-append (None ∷ xs) ys = somes-append xs ys
-  somes-append (Some x ∷ xs) ys = ap (λ l. x ∷ l) (somes-append xs ys)
+  somes-append (z ∷ xs) ys = grind (arith, somes-append xs ys)
 
   pub reverse-somes : (zs : List (Option X)) → somes (reverse zs) ≡ reverse (somes zs)
   reverse-somes [] = refl
-  reverse-somes (None ∷ zs) = ap somes (reverse-append (None ∷ []) zs) ∙ somes-append (reverse zs) (None ∷ []) ∙ append-nil (somes (reverse zs))
-      ∙ reverse-somes zs
-  reverse-somes (Some x ∷ zs) =
-      ap somes (reverse-append (Some x ∷ []) zs) ∙ somes-append (reverse zs) (Some x ∷ []) ∙ ap (λ l. l ++ x ∷ []) (reverse-somes zs)
+  reverse-somes (None ∷ zs) =
+      ap somes (reverse-append (None ∷ []) zs) ∙ somes-append (reverse zs) (None ∷ []) ∙ append-nil (somes (reverse zs)) ∙ reverse-somes zs
+  reverse-somes (Some x ∷ zs) = ap somes (reverse-append (Some x ∷ []) zs) ∙ somes-append (reverse zs) (Some x ∷ []) ∙ ap (λ l. l ++ x ∷ []) (reverse-somes zs)
       ∙ sym (reverse-append (x ∷ []) (somes zs))
 
   -- a node for each slot leaves no hole
@@ -28,48 +25,39 @@ module _ {X : Type 0} where
   module _ (s : X → Bool) where
     pub after-somes : (zs : List (Option X)) → somes (after (holds_one s) zs) ≡ after s (somes zs)
     after-somes [] = refl
-    after-somes (None ∷ zs) = after-somes zs
-    after-somes (Some x ∷ zs) = grind (arith, after-somes zs)
+    after-somes (z ∷ zs) = grind (arith, after-somes zs)
 
     pub before-somes : (zs : List (Option X)) → somes (before (holds_one s) zs) ≡ before s (somes zs)
     before-somes [] = refl
-    before-somes (None ∷ zs) = before-somes zs
-    before-somes (Some x ∷ zs) = grind (arith, before-somes zs)
+    before-somes (z ∷ zs) = grind (arith, before-somes zs)
 
     pub left-somes : (zs : List (Option X)) → somes (changed (holds_one s) (λ _. None) zs) ≡ without s (somes zs)
     left-somes [] = refl
-    left-somes (None ∷ zs) = left-somes zs
-    left-somes (Some x ∷ zs) = grind (arith, left-somes zs)
+    left-somes (z ∷ zs) = grind (arith, left-somes zs)
 
     pub changed-somes : (y : X) (zs : List (Option X)) → somes (changed (holds_one s) (λ _. Some y) zs) ≡ changed s (λ _. y) (somes zs)
     changed-somes y [] = refl
-    changed-somes y (None ∷ zs) = changed-somes y zs
-    changed-somes y (Some x ∷ zs) = grind (arith, changed-somes y zs)
+    changed-somes y (z ∷ zs) = grind (arith, changed-somes y zs)
 
     pub put-somes : (y : X) (zs : List (Option X)) → somes (item_put_before (holds_one s) (Some y) zs) ≡ item_put_before s y (somes zs)
     put-somes y [] = refl
-    put-somes y (None ∷ zs) = put-somes y zs
-    put-somes y (Some x ∷ zs) = grind (arith, put-somes y zs)
+    put-somes y (z ∷ zs) = grind (arith, put-somes y zs)
 
     pub find-somes : (zs : List (Option X)) (x : X) → find (holds_one s) zs ≡ Some (Some x) → find s (somes zs) ≡ Some x
     find-somes [] x e = grind arith
-    find-somes (None ∷ zs) x e = find-somes zs x e
-    find-somes (Some y ∷ zs) x e = grind (arith, find-somes zs x)
+    find-somes (z ∷ zs) x e = grind (arith, find-somes zs x)
 
     pub none-somes : (zs : List (Option X)) → find (holds_one s) zs ≡ None → find s (somes zs) ≡ None
     none-somes [] e = refl
-    none-somes (None ∷ zs) e = none-somes zs e
-    none-somes (Some y ∷ zs) e = grind (arith, none-somes zs)
+    none-somes (z ∷ zs) e = grind (arith, none-somes zs)
 
-    -- one is somewhere where it has a place
+    -- one is somewhere where it has an ordinal
     pub any-somes : (zs : List (Option X)) → ltb 0 (last_place (holds_one s) zs) ≡ list_any s (somes zs)
     any-somes [] = refl
-    any-somes (None ∷ zs) = any-somes zs
-    any-somes (Some y ∷ zs) = grind (arith, any-somes zs, nat_tests)
+    any-somes (z ∷ zs) = grind (arith, any-somes zs, nat_tests)
 
 -- one that is sought is in scope where no stop is nearer
 pub in_scope-levels : {N : Type 0} (stops sought : OpenNode N → Bool) (zs : List (Option (OpenNode N)))
     → in_scope stops sought (somes zs) ≡ (ltb 0 (last_place (holds_one sought) zs) && leb (last_place (holds_one stops) zs) (last_place (holds_one sought) zs))
 in_scope-levels stops sought [] = refl
-in_scope-levels stops sought (None ∷ zs) = in_scope-levels stops sought zs
-in_scope-levels stops sought (Some x ∷ zs) = grind (arith, in_scope-levels stops sought zs, last_place-le, nat_tests)
+in_scope-levels stops sought (z ∷ zs) = grind (arith, in_scope-levels stops sought zs, last_place-le, nat_tests)

@@ -1,11 +1,11 @@
 -- The open nodes under other names.
-use Rattle.hopen.proofs.Names.{◌≡◌, ℕ, Bool, true, false, cond, not, ◌&&◌, ◌||◌, List, [], ◌∷◌, Option, Some, None, refl, ◌∙◌, ap, option_map, option_or, slice_get-map, find-map, OpenNode, is_node, current, in_scope, topmost_special, furthest_block, is_named, Tag, is_special, if◌then◌else◌, slice_get, drop, reverse, before-map, after-map, without-map, changed-map, put_before-map, any-map, position-map, reverse-map, below, stops_in_scope, stops_in, is_of, is_of_group, mapped_open, mapped_stack, StackKnowsNoNames, Default, IsSpelling}
+use Rattle.hopen.proofs.Names.{arith, ◌≡◌, ℕ, Bool, List, [], ◌∷◌, refl, ◌∙◌, ap, option_map, slice_get-map, find-map, OpenNode, is_node, current, in_scope, topmost_special, furthest_block, is_named, Tag, is_special, slice_get, drop, reverse, before-map, after-map, without-map, changed-map, put_before-map, any-map, position-map, reverse-map, below, stops_in_scope, stops_in, is_of, is_of_group, mapped_open, mapped_stack, StackKnowsNoNames, Default, IsSpelling}
 
 pub scope-map : {N M : Type 0} (g : N → M) (p : OpenNode N → Bool) (q : OpenNode M → Bool) → ((x : OpenNode N) → q (mapped_open g x) ≡ p x)
-    → (st : OpenNode N → Bool) (st' : OpenNode M → Bool)
-    → ((x : OpenNode N) → st' (mapped_open g x) ≡ st x) → (xs : List (OpenNode N)) → in_scope st' q (mapped_stack g xs) ≡ in_scope st p xs
+    → (st : OpenNode N → Bool) (st' : OpenNode M → Bool) → ((x : OpenNode N) → st' (mapped_open g x) ≡ st x) → (xs : List (OpenNode N))
+    → in_scope st' q (mapped_stack g xs) ≡ in_scope st p xs
 scope-map g p q e st st' d [] = refl
-scope-map g p q e st st' d (x ∷ xs) = λ i. e x i || (not (d x i) && scope-map g p q e st st' d xs i)
+scope-map g p q e st st' d (x ∷ xs) = grind (arith, e, d, scope-map g p q e st st' d xs)
 
 module _ {N M : Type 0} (tag : N → Tag) (tag' : M → Tag) (same : N → N → Bool) (same' : M → M → Bool) (g : N → M) (s : IsSpelling tag tag' same same' g) where
   from_top-map : (down : ℕ) (xs : List (OpenNode N)) → slice_get (reverse (mapped_stack g xs)) down ≡ option_map (mapped_open g) (slice_get (reverse xs) down)
@@ -13,14 +13,7 @@ module _ {N M : Type 0} (tag : N → Tag) (tag' : M → Tag) (same : N → N →
 
   topmost-map : (xs : List (OpenNode N)) → topmost_special tag' (mapped_stack g xs) ≡ option_map (mapped_open g) (topmost_special tag xs)
   topmost-map [] = refl
-  topmost-map (x ∷ xs) = (λ i. option_or (topmost-map xs i) (if is_special (s.tags x.name i) then Some (mapped_open g x) else None))
-      ∙ go (topmost_special tag xs) (is_special (tag x.name))
-    where
-      go : (o : Option (OpenNode N)) (v : Bool) → option_or (option_map (mapped_open g) o) (cond v (Some (mapped_open g x)) None)
-          ≡ option_map (mapped_open g) (option_or o (cond v (Some x) None))
-      go None true = refl
-      go None false = refl
-      go (Some y) v = refl
+  topmost-map (x ∷ xs) = grind (arith, topmost-map xs, s.tags)
 
   furthest-map : (n : ℕ) (xs : List (OpenNode N)) → furthest_block tag' n (mapped_stack g xs) ≡ option_map (mapped_open g) (furthest_block tag n xs)
   furthest-map n xs = ap (topmost_special tag') (before-map (mapped_open g) (is_node n) (is_node n) (λ _. refl) xs) ∙ topmost-map (below n xs)
@@ -49,13 +42,12 @@ module _ {N M : Type 0} (tag : N → Tag) (tag' : M → Tag) (same : N → N →
     remove = λ n. without-map (mapped_open g) (is_node n) (is_node n) (λ _. refl);
     replace = λ n new. changed-map (mapped_open g) (is_node n) (is_node n) (λ _. refl) (λ _. new) (λ _. mapped_open g new) (λ _. refl);
     insert_below = λ n new. put_before-map (mapped_open g) (is_node n) (is_node n) (λ _. refl) new;
-    is_in_scope = λ scope a. scope-map g (is_named same a) (is_named same' (g a)) (λ x. s.names x.name a) (stops_in_scope tag scope) (stops_in_scope tag' scope)
-        (λ x. ap (stops_in scope) (s.tags x.name));
+    is_in_scope = λ scope a. scope-map g (is_named same a) (is_named same' (g a)) (λ x. s.names x.name a) (stops_in_scope tag scope)
+        (stops_in_scope tag' scope) (λ x. ap (stops_in scope) (s.tags x.name));
     node_is_in_scope = λ n. scope-map g (is_node n) (is_node n) (λ _. refl) (stops_in_scope tag Default) (stops_in_scope tag' Default)
         (λ x. ap (stops_in Default) (s.tags x.name));
-    group_is_in_scope = λ scope group.
-        scope-map g (is_of tag group) (is_of tag' group) (λ x. ap (is_of_group group) (s.tags x.name)) (stops_in_scope tag scope) (stops_in_scope tag' scope)
-        (λ x. ap (stops_in scope) (s.tags x.name));
+    group_is_in_scope = λ scope group. scope-map g (is_of tag group) (is_of tag' group) (λ x. ap (is_of_group group) (s.tags x.name))
+        (stops_in_scope tag scope) (stops_in_scope tag' scope) (λ x. ap (stops_in scope) (s.tags x.name));
     is_before_special = λ a. scope-map g (is_named same a) (is_named same' (g a)) (λ x. s.names x.name a) (λ x. is_special (tag x.name))
         (λ x. is_special (tag' x.name)) (λ x. ap is_special (s.tags x.name));
     furthest = furthest-map;

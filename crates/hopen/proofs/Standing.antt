@@ -1,11 +1,9 @@
 -- The kept levels of the first slots of a vector, as one more comes and the last of them goes.
-use Rattle.hopen.proofs.Names.{nat_tests, common_steps, ◌≡◌, ◌≢◌, ℕ, suc, ◌+◌, ◌-◌, ◌<◌, ◌≤◌, List, [], ◌∷◌, ◌++◌, Option, Some, None, length, map, take, get_or, set, sym, ◌∙◌, ap, subst, arith, transport, length-map, length-set, length-take-le, take_all, take-map, get_or-take, get_or_default, ext_get_or, Open, sum_by, sum_by_more, sum_by-le, AreAlike, AreAsLong, AreIn, HasRoom, IsBelow, IsIn, IsLinkedTo, KeepSetsTo, LevelsStand, LevelsTo, StandsTo, closing, kept_kind_at, kept_kind, open_name, open_node, slot_names, slot_nodes, nearest_in, nearest_up, opened_by, same_name_of, same_node_of, sets_at, stack_of, somes, slots_of, OpenNode, KeptNode, LastLevels, Kind, set_node, NameSet, open_of, reverse_push}
+use Rattle.hopen.proofs.Names.{cases_eq, nat_tests, common_steps, ◌≡◌, ◌≢◌, ℕ, suc, ◌+◌, ◌-◌, ◌<◌, ◌≤◌, List, [], ◌∷◌, ◌++◌, Option, Some, None, length, map, take, get_or, set, sym, ◌∙◌, ap, subst, arith, transport, length-map, length-set, length-take-le, take_all, take-map, get_or-take, get_or_default, ext_get_or, Open, sum_by, sum_by_more, sum_by-le, AreAlike, AreAsLong, AreIn, HasRoom, IsBelow, IsIn, IsLinkedTo, KeepSetsTo, LevelsStand, LevelsTo, StandsTo, closing, kept_kind_at, kept_kind, open_name, open_node, slot_names, slot_nodes, nearest_in, nearest_up, opened_by, same_name_of, same_node_of, sets_at, stack_of, somes, slots_of, OpenNode, KeptNode, LastLevels, Kind, set_node, NameSet, open_of, reverse_push}
 use Rattle.hopen.specs.declared.kept.Kind.TheVariants as kind
 use Rattle.std.proofs.Math.ListN.{get_or-map}
-use Rattle.hopen.proofs.Held.{below-held, no-node}
+use Rattle.hopen.proofs.Projected.{below-held, no-node, length-names, length-nodes, part-at, part-of, nearest-alike}
 use Rattle.hopen.proofs.Linked.{either, linked-front, linked-gap, linked-hole, linked-in, linked-less, linked-more}
-use Rattle.hopen.proofs.NearestUp.{nearest-alike}
-use Rattle.hopen.proofs.Projected.{length-names, length-nodes, part-at, part-of}
 use Rattle.hopen.proofs.Swapped.{walk-in}
 
 pub stack-more : (items : List KeptNode) (x : KeptNode) (y : OpenNode ℕ) → opened_by x ≡ Some y → stack_of (items ++ x ∷ []) ≡ y ∷ stack_of items
@@ -23,9 +21,7 @@ module _ (last : LastLevels) (items : List KeptNode) where
 
   -- as few must be closed as there are slots
   pub few-closed : (n : ℕ) → n ≤ length items → LevelsTo n last items → last.must_close ≤ n
-  few-closed n h s =
-      let few = sum_by-le closing 1 (take n ks) (λ j d less. one-closes (get_or (take n ks) j d)) in
-      omega (arith, s.closes, few, length-take-le n ks (omega (arith, length-map items kept_kind_at)))
+  few-closed n h s = grind (arith, s.closes, sum_by-le closing 1 (take n ks), one-closes, length-take-le n ks, length-map items kept_kind_at)
 
   -- what stands of all slots
   pub stands-to : LevelsStand last items → LevelsTo (length items) last items
@@ -44,14 +40,13 @@ module _ (last : LastLevels) (items : List KeptNode) where
 
   -- the tables have the numbers of all slots
   pub stands-in : LevelsStand last items → AreIn last ys
-  stands-in s i d h = go (get_or ys i d) (λ g. get_or-map g ys i None ∙ ap g (get_or_default ys i None d h))
-    where
-      go : (z : Option (OpenNode ℕ)) → ((g : Option (OpenNode ℕ) → ℕ) → get_or (map g ys) i (g None) ≡ g z) → IsIn last z
-      go None is = tt
-      go (Some y) is = (
-        walk-in last.names.items (slot_names ys) (map same_name_of items) s.names i y.name (is open_name) (omega (arith, length-map ys open_name)),
-        walk-in last.nodes.items (slot_nodes ys) (map same_node_of items) s.nodes i y.node (is open_node) (omega (arith, length-map ys open_node)),
-      )
+  stands-in s i d h = go (get_or ys i d) (λ g. get_or-map g ys i None ∙ ap g (get_or_default ys i None d h)) where
+    go : (z : Option (OpenNode ℕ)) → ((g : Option (OpenNode ℕ) → ℕ) → get_or (map g ys) i (g None) ≡ g z) → IsIn last z
+    go None is = tt
+    go (Some y) is = (
+      walk-in last.names.items (slot_names ys) (map same_name_of items) s.names i y.name (is open_name) (omega (arith, length-map ys open_name)),
+      walk-in last.nodes.items (slot_nodes ys) (map same_node_of items) s.nodes i y.node (is open_node) (omega (arith, length-map ys open_node)),
+    )
 
 pub in-as-long : (last next : LastLevels) → AreAsLong next last → (ys : List (Option (OpenNode ℕ))) → AreIn last ys → AreIn next ys
 in-as-long last next long ys all i d h = grind (arith, common_steps, nat_tests)
@@ -63,8 +58,8 @@ below-front last ys zs n new x b same = grind (arith, common_steps, nat_tests, n
 
 -- items that keep the same, but for hints
 pub levels-alike : (n : ℕ) (last : LastLevels) (xs ys : List KeptNode) → AreAlike xs ys → LevelsTo n last ys → LevelsTo n last xs
-levels-alike n last xs ys a s = transport (λ t. StandsTo n last (sym a.rest.opened t) (sym a.same_names t) (sym a.rest.same_nodes t) (sym a.rest.sets t)
-    (sym a.rest.kinds t)) s
+levels-alike n last xs ys a s =
+    transport (λ t. StandsTo n last (sym a.rest.opened t) (sym a.same_names t) (sym a.rest.same_nodes t) (sym a.rest.sets t) (sym a.rest.kinds t)) s
 
 -- items that begin alike
 module _ (n : ℕ) (last : LastLevels) (xs ys : List KeptNode) (same : take n xs ≡ take n ys) where
@@ -88,8 +83,7 @@ module _ (n : ℕ) (last : LastLevels) (xs ys : List KeptNode) (same : take n xs
     nodes = linked-front last.nodes.items (slot_nodes (map opened_by ys)) (map same_node_of ys) n (slot_nodes (map opened_by xs)) (map same_node_of xs)
         (at (slot_nodes (map opened_by xs)) (slot_nodes (map opened_by ys)) (front-of open_node opened_by) 0)
         (at (map same_node_of xs) (map same_node_of ys) (front same_node_of) 0) s.nodes;
-    sets = λ set m h live.
-        at (map (set_node set) (map sets_at xs)) (map (set_node set) (map sets_at ys)) (front-of (set_node set) sets_at) 0 m h
+    sets = λ set m h live. at (map (set_node set) (map sets_at xs)) (map (set_node set) (map sets_at ys)) (front-of (set_node set) sets_at) 0 m h
         ∙ s.sets set m h (λ e. live (opened-front m h ∙ e))
         ∙ nearest-alike set (map opened_by xs) (map opened_by ys) (suc m) (λ j less. sym (opened-front j (omega arith)));
     kinds = λ j h. at (map kept_kind_at xs) (map kept_kind_at ys) (front kept_kind_at) kind.Hole j h ∙ s.kinds j h ∙ ap kept_kind (sym (opened-front j h));
@@ -106,8 +100,7 @@ module _ (items : List KeptNode) (i : ℕ) (within : i < length items) (last : L
   kinds = map kept_kind_at items
 
   closes-more : sum_by closing (take (suc i) kinds) ≡ sum_by closing (take i kinds) + closing (get_or kinds i kind.Hole)
-  closes-more =
-      let one : suc i ≡ i + 1 = omega arith in
+  closes-more = let one : suc i ≡ i + 1 = omega arith in
       ap (λ k. sum_by closing (take k kinds)) one ∙ sum_by_more closing kinds i kind.Hole (omega (arith, length-map items kept_kind_at))
 
   -- a hole goes
@@ -122,20 +115,18 @@ module _ (items : List KeptNode) (i : ℕ) (within : i < length items) (last : L
     kind-at = part-at kept_kind_at kind.Hole items i x within is
 
     -- what holds of the first slots, and of the next one, holds of all of them
-    kinds-next : ((j : ℕ) → j < i → get_or kinds j kind.Hole ≡ kept_kind (get_or zs j None)) → x.kind ≡ kept_kind (opened_by x)
-        → (j : ℕ) → j < suc i → get_or kinds j kind.Hole ≡ kept_kind (get_or zs j None)
-    kinds-next below here j h = either (λ m. get_or kinds m kind.Hole ≡ kept_kind (get_or zs m None)) i j
-        (kind-at ∙ here ∙ ap kept_kind (sym slot)) (λ ne. below j (omega arith))
+    kinds-next : ((j : ℕ) → j < i → get_or kinds j kind.Hole ≡ kept_kind (get_or zs j None)) → x.kind ≡ kept_kind (opened_by x) → (j : ℕ) → j < suc i
+        → get_or kinds j kind.Hole ≡ kept_kind (get_or zs j None)
+    kinds-next below here j h = grind (arith, nat_tests, kind-at, slot, below j, cases_eq j i)
 
     sets-next : KeepSetsTo i zs (map sets_at items) → ((set : NameSet) → get_or zs i None ≢ None → set_node set x.sets ≡ nearest_up set zs (suc i))
         → KeepSetsTo (suc i) zs (map sets_at items)
-    sets-next below here set m h = either (λ m. get_or zs m None ≢ None → get_or (map (set_node set) (map sets_at items)) m 0 ≡ nearest_up set zs (suc m)) i m
-        (λ live. part-of (set_node set) sets_at 0 items i x within is ∙ here set live) (λ ne. below set m (omega arith))
+    sets-next below here set m h = grind (arith, nat_tests, either, part-of (set_node set) sets_at 0 items i x within is, below set m, here set)
 
     -- a hole comes
     pub levels-gap : x.kind ≡ kind.Hole → x.same_name ≡ 0 → x.same_node ≡ 0 → LevelsTo i last items → LevelsTo (suc i) last items
-    levels-gap hole same_name same_node s =
-        grind (arith, common_steps, nat_tests, closes-more, get_or-map, kind-at, kinds-next, linked-gap, no-node, part-at, sets-next, slot)
+    levels-gap hole same_name same_node s = grind
+        (arith, common_steps, nat_tests, closes-more, get_or-map, kind-at, kinds-next, linked-gap, no-node, part-at, sets-next, slot)
 
     -- a node comes, with what the tables say
     pub levels-more : (next : LastLevels) (level : ℕ) → level ≡ suc i → IsBelow last zs i x.opened x → HasRoom last x.opened
@@ -146,13 +137,11 @@ module _ (items : List KeptNode) (i : ℕ) (within : i < length items) (last : L
         let live : get_or zs i None ≡ Some (open_of x.opened) = slot ∙ held in
         record {
           names = subst (λ (t : List ℕ). IsLinkedTo (suc i) t (slot_names zs) (map same_name_of items))
-              (sym (names ∙ ap (set last.names.items x.opened.name) at))
-              (linked-more last.names.items (slot_names zs) (map same_name_of items) i x.opened.name (get_or-map open_name zs i None ∙ ap open_name live)
-              room.0 (part-at same_name_of 0 items i x within is ∙ below.same_name) s.names);
+              (sym (names ∙ ap (set last.names.items x.opened.name) at)) (linked-more last.names.items (slot_names zs) (map same_name_of items) i
+              x.opened.name (get_or-map open_name zs i None ∙ ap open_name live) room.0 (part-at same_name_of 0 items i x within is ∙ below.same_name) s.names);
           nodes = subst (λ (t : List ℕ). IsLinkedTo (suc i) t (slot_nodes zs) (map same_node_of items))
-              (sym (nodes ∙ ap (set last.nodes.items x.opened.node) at))
-              (linked-more last.nodes.items (slot_nodes zs) (map same_node_of items) i x.opened.node (get_or-map open_node zs i None ∙ ap open_node live)
-              room.1 (part-at same_node_of 0 items i x within is ∙ below.same_node) s.nodes);
+              (sym (nodes ∙ ap (set last.nodes.items x.opened.node) at)) (linked-more last.nodes.items (slot_nodes zs) (map same_node_of items) i
+              x.opened.node (get_or-map open_node zs i None ∙ ap open_node live) room.1 (part-at same_node_of 0 items i x within is ∙ below.same_node) s.nodes);
           sets = sets-next s.sets (λ set _. below.sets set ∙ ap (λ o. nearest_in set o (nearest_up set zs i)) (sym live));
           kinds = kinds-next s.kinds (below.kind ∙ ap kept_kind (sym held));
           closes = omega (arith, closes, s.closes, closes-more, ap closing kind-at);
@@ -168,10 +157,7 @@ module _ (items : List KeptNode) (i : ℕ) (within : i < length items) (last : L
       node-here = get_or-map open_node zs i None ∙ ap open_node (slot ∙ live)
 
       pub levels-in : HasRoom last x.opened
-      levels-in = (
-        linked-in last.names.items (slot_names zs) (map same_name_of items) i x.opened.name name-here s.names,
-        linked-in last.nodes.items (slot_nodes zs) (map same_node_of items) i x.opened.node node-here s.nodes,
-      )
+      levels-in = (linked-in _ _ _ i _ name-here s.names, linked-in _ _ _ i _ node-here s.nodes)
 
       pub levels-counted : closing x.kind ≤ last.must_close
       levels-counted = omega (arith, s.closes, closes-more, ap closing kind-at)

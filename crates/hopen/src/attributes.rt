@@ -31,12 +31,12 @@ fn contains_by_name(names: &IndexedList, attrs: &[Attr], attr: &Attr) -> bool
     requires { names.now ≡ attr_numbers attrs.now }
     ensures { result ≡ list_any (same_attribute nat_eq (attribute_of attr.now)) (map attribute_of attrs.now) }
 {
-    let mut place = names.last(name_number(attr.name()));
-    while place > 0 {
-        if is_same(attr, &attrs[place - 1]) {
+    let mut ordinal = names.last(name_number(attr.name()));
+    while ordinal > 0 {
+        if is_same(attr, &attrs[ordinal - 1]) {
             return true;
         }
-        place = names.before(place);
+        ordinal = names.before(ordinal);
     }
     false
 }

@@ -150,22 +150,22 @@ impl Formatting {
     pub fn find(&self, name: NameId) -> Option<&Entry>
         ensures { option_map (λ e. entry_is e.now) result ≡ find_entry nat_eq name self.now }
     {
-        let place = self.slots.names.last(name_number(name));
-        if place <= self.slots.names.last(MARKER) {
+        let ordinal = self.slots.names.last(name_number(name));
+        if ordinal <= self.slots.names.last(MARKER) {
             return None;
         }
-        self.slots.items[place - 1].entry()
+        self.slots.items[ordinal - 1].entry()
     }
 
     /// The entry of a node; `None` if it has no entry.
     pub fn entry_of(&self, node: NodeId) -> Option<&Entry>
         ensures { option_map (λ e. entry_is e.now) result ≡ entry_of node self.now }
     {
-        let place = self.slots.nodes.last(node_number(node));
-        if place == 0 {
+        let ordinal = self.slots.nodes.last(node_number(node));
+        if ordinal == 0 {
             return None;
         }
-        self.slots.items[place - 1].entry()
+        self.slots.items[ordinal - 1].entry()
     }
 
     /// The entry with `back` items after it: 0 is the last one. `None` for a marker, and past the first item; so a loop that goes back,
@@ -202,9 +202,9 @@ impl Formatting {
     pub fn replace(&mut self, from: NodeId, to: NodeId)
         ensures { self.new ≡ with_node from to self.old }
     {
-        let place = self.slots.nodes.last(node_number(from));
-        if place > 0 {
-            self.slots.renew(place - 1, to);
+        let ordinal = self.slots.nodes.last(node_number(from));
+        if ordinal > 0 {
+            self.slots.renew(ordinal - 1, to);
         }
     }
 
@@ -239,15 +239,15 @@ impl Formatting {
         ensures entry { self.new ≡ without (is_entry node) self.old }
         ensures more { result ≡ list_any (is_entry node) self.new }
     {
-        let place = self.slots.nodes.last(node_number(node));
-        if place == 0 {
+        let ordinal = self.slots.nodes.last(node_number(node));
+        if ordinal == 0 {
             return false;
         }
-        let more = self.slots.nodes.before(place) > 0;
-        if place < self.slots.items.len() {
-            self.slots.hide(place - 1);
+        let more = self.slots.nodes.before(ordinal) > 0;
+        if ordinal < self.slots.items.len() {
+            self.slots.hide(ordinal - 1);
         } else {
-            self.slots.truncate(place - 1);
+            self.slots.truncate(ordinal - 1);
         }
         trim(&mut self.slots);
         more

@@ -77,13 +77,13 @@ fn push_numbers(
     Ok(())
 }
 
-/// The index of the last hole after an index and before a place, if there is one.
-fn last_hole(items: &[Slot], index: usize, place: usize) -> Option<usize>
+/// The index of the last hole after an index and before an ordinal, if there is one.
+fn last_hole(items: &[Slot], index: usize, ordinal: usize) -> Option<usize>
     requires index { index < length items.now }
-    requires place { place ≤ length items.now }
+    requires ordinal { ordinal ≤ length items.now }
     ensures { IfSome result (λ k. (index < k) × (k < length items.now) × (is_gone (slice_index_or items.now k stored.Hole) ≡ true)) }
 {
-    let mut hole = place;
+    let mut hole = ordinal;
     while hole > index + 1 {
         hole -= 1;
         if items[hole].is_hole() {
@@ -124,18 +124,18 @@ impl Slots {
     /// Whether there are more entries of a name after the last marker than are compared one by one, or such with many attributes.
     fn is_crowded(&self, name: NameId) -> bool {
         let marker = self.names.last(MARKER);
-        let mut place = self.names.last(name_number(name));
+        let mut ordinal = self.names.last(name_number(name));
         for _ in 0..FEW {
-            if place <= marker {
+            if ordinal <= marker {
                 return false;
             }
-            match self.items.get(place - 1) {
+            match self.items.get(ordinal - 1) {
                 Some(Slot::Entry(entry)) if entry.attrs.as_slice().len() <= FEW => {}
                 _ => return true,
             }
-            place = self.names.before(place);
+            ordinal = self.names.before(ordinal);
         }
-        place > marker
+        ordinal > marker
     }
 
     /// Before an entry of a name comes: if that name has many, hashes the entries from now on. On an error nothing changes.
@@ -169,15 +169,15 @@ impl Slots {
     {
         let hashes = self.by_hash();
         let marker = hashes.last(MARKER);
-        let mut place = hashes.last(hash);
+        let mut ordinal = hashes.last(hash);
         let mut equal = 0;
         let mut earliest = None;
-        while place > marker {
-            if self.items[place - 1].is_equal(alloc, new)? {
+        while ordinal > marker {
+            if self.items[ordinal - 1].is_equal(alloc, new)? {
                 equal += 1;
-                earliest = Some(self.items.len() - place);
+                earliest = Some(self.items.len() - ordinal);
             }
-            place = hashes.before(place);
+            ordinal = hashes.before(ordinal);
         }
         Ok(if equal < MOST_EQUAL { None } else { earliest })
     }
@@ -197,8 +197,8 @@ impl Slots {
         ensures room { IfOk result (λ p. option_map_or (remove (listed_items self.new.items.items)) p.1 (listed_items self.new.items.items)
             ≡ with_room nat_eq (entry_is new.now) (listed_items self.new.items.items)) }
     {
-        let place = self.names.last(name_number(new.name));
-        if place <= self.names.last(MARKER) {
+        let ordinal = self.names.last(name_number(new.name));
+        if ordinal <= self.names.last(MARKER) {
             return Ok((find_hash(alloc, self.keys, new)?, None));
         }
         self.hash_if_crowded(alloc, keys, new.name)?;
@@ -342,8 +342,8 @@ impl Slots {
         if self.solid <= index {
             return index;
         }
-        let place = self.nodes.last(node_number(mark));
-        let Some(hole) = last_hole(&self.items, index, place) else {
+        let ordinal = self.nodes.last(node_number(mark));
+        let Some(hole) = last_hole(&self.items, index, ordinal) else {
             return index;
         };
         self.jump(index, hole);
@@ -361,8 +361,12 @@ impl Slots {
     {
         let near = self.approach(index, mark);
         self.nodes.clear(near);
-        let place = self.nodes.last(node_number(mark));
-        let to = if place <= near { place } else { place - 1 };
+        let ordinal = self.nodes.last(node_number(mark));
+        let to = if ordinal <= near {
+            ordinal
+        } else {
+            ordinal - 1
+        };
         self.nodes.set(near, node_number(node));
         self.items[near].set_node(node);
         self.carry(near, to);

@@ -9,12 +9,10 @@ seen : (xs others : List Attr) → list_all (there others) xs ≡ are_among nat_
 seen xs others = sym (list_all-map (λ a. list_any (same_attribute nat_eq a) (map attribute_of others)) attribute_of xs)
 
 pub returns-then-not-contains_by_name : goal.returns-then-not-contains_by_name
-returns-then-not-contains_by_name c =
-    let missing : c.contains_by_name.result ≡ false = search rules in
+returns-then-not-contains_by_name c = let missing : c.contains_by_name.result ≡ false = search rules in
     sym (list_all_at (there c.args.others.now) c.args.attrs.now c.loop-attr.attr-index c.attr-item.result (omega arith)
     (ap (there c.args.others.now) (sym c.attr-item.is) ∙ sym c.contains_by_name.ensures ∙ missing)) ∙ seen c.args.attrs.now c.args.others.now
 
 pub returns : goal.returns
-returns c =
-    sym c.loop-attr.invariant ∙ ap (list_all (there c.args.others.now)) (take_all c.loop-attr.attr-index c.args.attrs.now (omega arith))
+returns c = sym c.loop-attr.invariant ∙ ap (list_all (there c.args.others.now)) (take_all c.loop-attr.attr-index c.args.attrs.now (omega arith))
     ∙ seen c.args.attrs.now c.args.others.now

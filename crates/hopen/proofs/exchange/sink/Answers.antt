@@ -7,16 +7,13 @@ use Rattle.hopen.proofs.Trimmed.{stack-holes}
 use Rattle.hopen.proofs.exchange.sink.Goals as goal
 
 pub loop-index-preserved : goal.loop-index-preserved
-loop-index-preserved c =
-    let ys : List (Option (OpenNode ℕ)) = map opened_by c.loop-index.items in
-    let i = c.loop-index.index in
+loop-index-preserved c = let ys : List (Option (OpenNode ℕ)) = map opened_by c.loop-index.items in let i = c.loop-index.index in
     let j = c.next_open-below.result in
     let w = c.loop-index.invariant in
     let below = c.next_open-below.ensures in
     let opened = c.swap.ensures.opened in
     let within : j < length ys = omega (arith, below.within, length-map c.loop-index.items opened_by) in
-    let holes : (m : ℕ) → i < m → m < j → get_or ys m None ≡ None =
-    λ m a b. no-name ys m (below.holes m a b) in
+    let holes : (m : ℕ) → i < m → m < j → get_or ys m None ≡ None = λ m a b. no-name ys m (below.holes m a b) in
     record {
       rests = record {
         stands = c.swap.ensures.stands;

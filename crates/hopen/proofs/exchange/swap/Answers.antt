@@ -9,21 +9,15 @@ module _ (items alike : List KeptNode) (i j : ℕ) (a b x y : KeptNode) (less : 
     (second : y ≡ get_or items j y) where
   moved : {Y : Type 0} (f : KeptNode → Y) (d : Y) → map f alike ≡ map f items → f a ≡ f y → f b ≡ f x
       → map f (set (set alike i a) j b) ≡ exchanged i j d (map f items)
-  moved f d same e g =
-      map-set f (set alike i a) j b ∙ ap (λ l. set l j (f b)) (map-set f alike i a)
-      ∙ (λ t. set (set (same t) i ((e ∙ sym (part-at f d items j y within second)) t)) j ((g ∙ sym (part-at f d items i x (omega arith) first)) t))
+  moved f d same e g = grind (arith, map-set, same, part-at f d items j y within second, part-at f d items i x (omega arith) first, e, g)
 
 pub returns-clause-opened : goal.returns-clause-opened
-returns-clause-opened c =
-    let p = c.requires.can_pass in
+returns-clause-opened c = let p = c.requires.can_pass in
     moved c.args.items.now c.swap_names.new.items c.args.index c.args.below _ _ c.index-items-index-2.result c.index-items-below-2.result p.order p.within
     c.index-items-index-2.is c.index-items-below-2.is opened_by None c.swap_names.ensures.rest.opened refl refl
 
 pub returns-clause-stands : goal.returns-clause-stands
-returns-clause-stands c =
-    let items : List KeptNode = c.args.items.now in
-    let alike : List KeptNode = c.swap_names.new.items in
-    let i = c.args.index in
+returns-clause-stands c = let items : List KeptNode = c.args.items.now in let alike : List KeptNode = c.swap_names.new.items in let i = c.args.index in
     let j = c.args.below in
     let x : KeptNode = c.index-items-index-2.result in
     let y : KeptNode = c.index-items-below-2.result in
@@ -46,16 +40,13 @@ returns-clause-stands c =
     (ap same_name_of (c.index-items-below-3.is ∙ get_or_default alike j sunk risen (omega (arith, p.within, c.swap_names.auto.items)))) in
     let sets : map sets_at new ≡ set (map sets_at items) i y.sets =
     two-upper sets_at alike i j a b sunk p.order (ap sets_at c.index-items-below-3.is) ∙ ap (λ l. set l i y.sets) rest.sets in
-    stands-passed last items i j c.requires.stands p c.index-items-index.result c.index-items-below.result c.index-items-index.is
-    c.index-items-below.is _ new opened
-    (moved items alike i j a b x y p.order p.within first second same_node_of 0 rest.same_nodes refl refl)
+    stands-passed last items i j c.requires.stands p c.index-items-index.result c.index-items-below.result c.index-items-index.is c.index-items-below.is _ new
+    opened (moved items alike i j a b x y p.order p.within first second same_node_of 0 rest.same_nodes refl refl)
     (transport (λ t. IsLinked (sym (with_items_is last.names c.swap_names.new.names (c.swap_names.auto.names ∙ c.deref_mut.ensures.len)) t)
     (exchanged i j 0 (slot_names (map opened_by items))) (sym names t)) c.swap_names.ensures.linked)
     (λ t. set (set last.nodes.items ((c.index.ensures ∙ ap (λ (z : KeptNode). z.opened.node) (sym c.index-items-index.is)) t) (down t))
-    ((c.index-2.ensures ∙ ap (λ (z : KeptNode). z.opened.node) (sym c.index-items-below.is)) t) (up t))
-    (transport (λ t. KeepSets (sym opened t) (sym sets t))
+    ((c.index-2.ensures ∙ ap (λ (z : KeptNode). z.opened.node) (sym c.index-items-below.is)) t) (up t)) (transport (λ t. KeepSets (sym opened t) (sym sets t))
     (sets-exchanged (map opened_by items) i j (open_of x.opened) (open_of y.opened) p.order (omega (arith, p.within, many)) p.holes
-    (opened-at items i x front first (p.upper x first).0) (opened-at items j y p.within second (p.lower y second).0) (p.upper x first).1
-    (map sets_at items) y.sets
-    (length-map items sets_at ∙ sym many) c.requires.stands.sets (sym (part-at sets_at y.sets items j y p.within second))))
+    (opened-at items i x front first (p.upper x first).0) (opened-at items j y p.within second (p.lower y second).0) (p.upper x first).1 (map sets_at items)
+    y.sets (length-map items sets_at ∙ sym many) c.requires.stands.sets (sym (part-at sets_at y.sets items j y p.within second))))
     (moved items alike i j a b x y p.order p.within first second kept_kind_at kind.Hole rest.kinds refl refl) refl

@@ -1,44 +1,33 @@
-use Rattle.hopen.proofs.Names.{[], ◌≡◌, ℕ, ◌+◌, List, Some, None, ◌∷◌, ◌++◌, length, map, take, get_or, get_or_append_left, get_or_push, reverse, subst, sym, ap, ◌∙◌, arith, take-append-le, length-map, map-append, length-append, sum_by, sum_by_push, gap, Rests, LevelsTo, LastLevels, opened_by, stack_of, somes, KeptNode, Open, open_of, IsBelow}
-use Rattle.hopen.proofs.Held.{below-held, some≢none}
+use Rattle.hopen.proofs.Projected.{held, below-held, some≢none}
+use Rattle.hopen.proofs.Names.{[], ◌≡◌, ℕ, ◌+◌, List, Some, None, ◌∷◌, ◌++◌, length, map, take, get_or, get_or_append_left, get_or_push, subst, sym, ap, ◌∙◌, arith, take-append-le, length-map, map-append, length-append, sum_by, sum_by_push, gap, Rests, LevelsTo, LastLevels, opened_by, KeptNode, Open, open_of, IsBelow}
 use Rattle.hopen.proofs.Standing.{below-front, levels-front, stack-more, stands-to, to-stands}
-use Rattle.hopen.proofs.Trimmed.{stack-holes}
-use Rattle.hopen.proofs.WrittenBack.{written_back}
+use Rattle.hopen.proofs.Trimmed.{stack-holes, written_back}
 use Rattle.hopen.proofs.kept.append.Goals as goal
 
 -- what is known of the lent slots is so of the vector's first ones
 below-of : (last : LastLevels) (items lent : List KeptNode) (n : ℕ) (new : Open) (x : KeptNode) → lent ≡ items → length items ≡ n
     → IsBelow last (map opened_by lent) (length lent) new x → IsBelow last (map opened_by items) n new x
-below-of last items lent n new x value long b =
-    subst (λ k. IsBelow last (map opened_by items) k new x) long (subst (λ (xs : List KeptNode). IsBelow last (map opened_by xs) (length xs) new x) value b)
+below-of last items lent n new x value long b = rw (value, long) at b
 
 pub enter-requires-clause-stands : goal.enter-requires-clause-stands
-enter-requires-clause-stands c =
-    let items : List KeptNode = c.args.items.now.items in
-    let x = c.slot_below-slot.result in
-    let n = c.len-index.result in
+enter-requires-clause-stands c = let items : List KeptNode = c.args.items.now.items in let x = c.slot_below-slot.result in let n = c.len-index.result in
     let long : length items ≡ n = omega arith in
     let pushed : c.deref_mut.result.now ≡ items ++ x ∷ [] = c.deref_mut.ensures.value ∙ c.in_ok-push.ensures.items in
     levels-front n c.args.last.now c.deref_mut.result.now items (ap (take n) pushed ∙ take-append-le n items (x ∷ []) (omega (arith, long)))
     (subst (λ k. LevelsTo k c.args.last.now items) long (stands-to c.args.last.now items c.requires.rests.stands))
 
 pub enter-requires-clause-below : goal.enter-requires-clause-below
-enter-requires-clause-below c =
-    let items : List KeptNode = c.args.items.now.items in
-    let x = c.slot_below-slot.result in
-    let n = c.len-index.result in
+enter-requires-clause-below c = let items : List KeptNode = c.args.items.now.items in let x = c.slot_below-slot.result in let n = c.len-index.result in
     let long : length items ≡ n = omega arith in
     let pushed : map opened_by c.deref_mut.result.now ≡ map opened_by items ++ opened_by x ∷ [] =
     ap (map opened_by) (c.deref_mut.ensures.value ∙ c.in_ok-push.ensures.items) ∙ map-append opened_by items (x ∷ []) in
     below-front c.args.last.now (map opened_by items) (map opened_by c.deref_mut.result.now) n c.args.opened x
     (below-of c.args.last.now items c.deref.result.now n c.args.opened x c.deref.ensures.value long
-    (c.slot_below-slot.ensures c.deref.result.now (length c.deref.result.now) c.sets_at_end.ensures))
-    (λ j h. ap (λ ys. get_or ys j None) pushed ∙ get_or_append_left (map opened_by items) (opened_by x ∷ []) None j (omega (arith, long, length-map items opened_by)))
+    (c.slot_below-slot.ensures c.deref.result.now (length c.deref.result.now) c.sets_at_end.ensures)) (λ j h.
+    ap (λ ys. get_or ys j None) pushed ∙ get_or_append_left (map opened_by items) (opened_by x ∷ []) None j (omega (arith, long, length-map items opened_by)))
 
 pub returns-clause-rests : goal.returns-clause-rests
-returns-clause-rests c =
-    let items : List KeptNode = c.args.items.now.items in
-    let x = c.slot_below-slot.result in
-    let n = c.len-index.result in
+returns-clause-rests c = let items : List KeptNode = c.args.items.now.items in let x = c.slot_below-slot.result in let n = c.len-index.result in
     let new : List KeptNode = c.enter.new.items in
     let last = c.enter.new.last in
     let held : opened_by x ≡ Some (open_of x.opened) = below-held c.args.last.now (map opened_by c.deref.result.now) (length c.deref.result.now)
@@ -70,12 +59,8 @@ returns-clause-rests c =
     })
 
 pub returns-clause-ok : goal.returns-clause-ok
-returns-clause-ok c =
-    let items : List KeptNode = c.args.items.now.items in
-    let x = c.slot_below-slot.result in
-    let below = c.slot_below-slot.ensures c.deref.result.now (length c.deref.result.now) c.sets_at_end.ensures in
-    let pushed : c.deref_mut.result.now ≡ items ++ x ∷ [] = c.deref_mut.ensures.value ∙ c.in_ok-push.ensures.items in
-    ap stack_of (written_back c.enter.new.items _ _ _ c.enter.ensures.same c.deref_mut.ensures.value c.deref_mut.ensures.len)
-    ∙ ap (λ ys. somes (reverse ys)) (c.enter.ensures.same ∙ ap (map opened_by) pushed)
-    ∙ stack-more items x (open_of x.opened) (below-held c.args.last.now (map opened_by c.deref.result.now) (length c.deref.result.now) c.args.opened x below)
-    ∙ ap (λ (z : Open). open_of z ∷ stack_of items) below.opened
+returns-clause-ok c = let items : List KeptNode = c.args.items.now.items in let x = c.slot_below-slot.result in let lent = c.deref.result.now in
+    let below = c.slot_below-slot.ensures lent (length lent) c.sets_at_end.ensures in
+    let back = written_back c.enter.new.items _ _ _ c.enter.ensures.same c.deref_mut.ensures.value c.deref_mut.ensures.len in
+    let held = below-held c.args.last.now (map opened_by lent) (length lent) c.args.opened x below in let more = stack-more items x (open_of x.opened) held in
+    grind (arith, back, c.enter.ensures.same, c.deref_mut.ensures.value, c.in_ok-push.ensures.items, more, below.opened)

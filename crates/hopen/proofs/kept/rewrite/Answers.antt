@@ -3,8 +3,7 @@ use Rattle.hopen.proofs.Standing.{in-as-long, levels-front, stands-in}
 use Rattle.hopen.proofs.kept.rewrite.Goals as goal
 
 pub rewind-requires-clause-stands : goal.rewind-requires-clause-stands
-rewind-requires-clause-stands c =
-    let items = c.args.items.now in
+rewind-requires-clause-stands c = let items = c.args.items.now in
     levels-front c.args.index c.unwind.new.last (set items c.args.index c.args.slot) items (take-set items c.args.index c.args.slot) c.unwind.ensures.stands
 
 pub rewind-requires-clause-numbers : goal.rewind-requires-clause-numbers

@@ -1,6 +1,5 @@
 use Rattle.hopen.proofs.Names.{common_steps, ◌≡◌, ℕ, None, suc, List, ◌-◌, ◌<◌, ◌∙◌, sym, subst, arith, length, opened_by, KeptNode, LastLevels, LevelsTo}
-use Rattle.hopen.proofs.Held.{held, no-node}
-use Rattle.hopen.proofs.Projected.{part-at}
+use Rattle.hopen.proofs.Projected.{held, no-node, part-at}
 use Rattle.hopen.proofs.Standing.{levels-counted, levels-hole, levels-in, levels-less}
 use Rattle.hopen.proofs.kept.unwind.Goals as goal
 
@@ -15,10 +14,7 @@ pub take_back-requires-clause-counted : goal.take_back-requires-clause-counted
 take_back-requires-clause-counted c = grind (arith, common_steps, held, levels-counted, slot-stands)
 
 pub loop-end-preserved-then-not-is_hole : goal.loop-end-preserved-then-not-is_hole
-loop-end-preserved-then-not-is_hole c =
-    let items = c.args.items.now in
-    let last = c.loop-end.last in
-    let x = c.index-items-end.result in
+loop-end-preserved-then-not-is_hole c = let items = c.args.items.now in let last = c.loop-end.last in let x = c.index-items-end.result in
     let s = slot-stands c.loop-end.end last items (omega arith) c.loop-end.invariant.stands in
     let long = c.loop-end.invariant.tables in
     let t = c.take_back.ensures.tables in
@@ -32,11 +28,7 @@ loop-end-preserved-then-not-is_hole c =
     }
 
 pub loop-end-preserved : goal.loop-end-preserved
-loop-end-preserved c =
-    let items = c.args.items.now in
-    let i = c.loop-end.end - 1 in
-    let last = c.loop-end.last in
-    let x = c.index-items-end.result in
+loop-end-preserved c = let items = c.args.items.now in let i = c.loop-end.end - 1 in let last = c.loop-end.last in let x = c.index-items-end.result in
     let within : i < length items = omega (arith, c.loop-end.invariant.within) in
     record {
       within = omega (arith, c.loop-end.invariant.within);

@@ -1,5 +1,5 @@
 use Rattle.hopen.proofs.Names.{common_steps, ◌≡◌, ◌+◌, ◌-◌, ◌<◌, suc, ◌∷◌, ◌++◌, [], Some, List, length, map, drop, set, get_or, get_or_push, refl, sym, ap, ◌∙◌, subst, arith, length-append, map-append, take-append-le, sum_by_push, opened_by, open_of, stack_of, closing, EndsOpen, HasRoom, LevelsStand, LevelsTo, Rests, KeptNode, LastLevels, current}
-use Rattle.hopen.proofs.Held.{held}
+use Rattle.hopen.proofs.Projected.{held}
 use Rattle.hopen.proofs.Standing.{levels-front, levels-in, levels-less, stack-more, stands-to, to-stands}
 use Rattle.hopen.proofs.Trimmed.{ends-live, stack-holes}
 use Rattle.hopen.proofs.leaving.take_last.Goals as goal
@@ -55,7 +55,5 @@ pub returns-clause-rest : goal.returns-clause-rest
 returns-clause-rest c = sym (ap (drop 1) (popped _ _ _ c.in_ok-item.ensures.items _ c.requires))
 
 pub returns-clause-some : goal.returns-clause-some
-returns-clause-some c =
-    let known = room _ _ _ c.in_ok-item.ensures.items _ c.requires in
-    let long = c.take_back.ensures.tables in
+returns-clause-some c = let known = room _ _ _ c.in_ok-item.ensures.items _ c.requires in let long = c.take_back.ensures.tables in
     grind (arith, common_steps, length-append)

@@ -4,9 +4,8 @@ use Rattle.hopen.proofs.slots.hash_items.Goals as goal
 -- one number more
 more : (of : EntryOf ℕ → ℕ) (items : List Stored) (i : ℕ) (x : Stored) (hashes : List ℕ) → i < length items → x ≡ get_or items i x
     → hashes ≡ numbers_by of (take i items) → hashes ++ number_by of (item_of x) ∷ [] ≡ numbers_by of (take (i + 1) items)
-more of items i x hashes low is before =
-    ap (λ ns. ns ++ number_by of (item_of x) ∷ []) before ∙ sym (map-append (λ y. number_by of (item_of y)) (take i items) (x ∷ []))
-    ∙ ap (numbers_by of) (sym (take-more items (i + 1) i x (omega arith) low is))
+more of items i x hashes low is before = ap (λ ns. ns ++ number_by of (item_of x) ∷ []) before
+    ∙ sym (map-append (λ y. number_by of (item_of y)) (take i items) (x ∷ [])) ∙ ap (numbers_by of) (sym (take-more items (i + 1) i x (omega arith) low is))
 
 size : (of : EntryOf ℕ → ℕ) (items : List Stored) (i : ℕ) (hashes : List ℕ) → i < length items → hashes ≡ numbers_by of (take i items) → length hashes ≡ i
 size of items i hashes low is = ap length is ∙ length-map (take i items) (λ x. number_by of (item_of x)) ∙ length-take-le i items (omega arith)

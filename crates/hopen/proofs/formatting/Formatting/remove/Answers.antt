@@ -9,6 +9,5 @@ pub loop-node-preserved : goal.loop-node-preserved
 loop-node-preserved c = ap (without_entry c.args.node) c.hide.ensures.entry ∙ filter-without (is_entry c.args.node) c.loop-node.self ∙ c.loop-node.invariant
 
 pub returns : goal.returns
-returns c =
-    sym (filter-all (is_entry c.args.node) c.hide.new.self (sym c.hide.ensures.more ∙ c.loop-node-test.false))
+returns c = sym (filter-all (is_entry c.args.node) c.hide.new.self (sym c.hide.ensures.more ∙ c.loop-node-test.false))
     ∙ ap (without_entry c.args.node) c.hide.ensures.entry ∙ filter-without (is_entry c.args.node) c.loop-node.self ∙ c.loop-node.invariant

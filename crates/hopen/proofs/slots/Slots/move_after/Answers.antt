@@ -1,9 +1,8 @@
 use Rattle.hopen.proofs.Names.{◌≡◌, ℕ, ◌<◌, ◌==◌, suc, true, List, length, set, get_or, reverse, refl, ◌∙◌, ap, arith, is_some, remove, get_or_read, length-reverse, length-set, length-remove, last_up, for_node, is_entry, item_of, item_put_before, listed_items, live, nowhere, moved_entry, stored_entry, last_place, last_place-le, Stored}
 use Rattle.hopen.specs.declared.entry.Slot.TheVariants as stored
-use Rattle.hopen.proofs.Jumped.{any-same, put-same}
-use Rattle.hopen.proofs.Moved.{IsPlaceWithout, listed-renewed, mark-place, moved-after}
+use Rattle.hopen.proofs.Moved.{any-same, put-same, IsPlaceWithout, listed-renewed, mark-ordinal, moved-after}
 use Rattle.hopen.proofs.slots.Slots.move_after.Goals as goal
-use Rattle.hopen.proofs.slots.Slots.move_after.Goals.{After-set_node, then-place-near, else-place-near}
+use Rattle.hopen.proofs.slots.Slots.move_after.Goals.{After-set_node, then-ordinal-near, else-ordinal-near}
 
 module _ (c : After-set_node) where
   abbrev items : List Stored
@@ -17,37 +16,29 @@ module _ (c : After-set_node) where
 
   -- under its new node
   renamed : c.set_node.new.self ≡ moved_entry c.args.node (get_or items i stored.Hole)
-  renamed = c.set_node.ensures ∙ ap (moved_entry c.args.node)
-      (get_or_read items i c.index_mut.result.now c.approach-near.ensures.within c.index_mut.ensures.value stored.Hole)
+  renamed = c.set_node.ensures
+      ∙ ap (moved_entry c.args.node) (get_or_read items i c.index_mut.result.now c.approach-near.ensures.within c.index_mut.ensures.value stored.Hole)
 
-  -- the place of the mark, without the entry that moves
-  placed : c.if-place-near.to ≡ last_place (λ x. is_entry c.args.mark (item_of x)) (reverse (remove items i))
-  placed =
-      let low : c.args.mark < nowhere = omega arith in
-      let listed = c.approach-near.new.self.listed in
-      let place : IsPlaceWithout (λ x. is_entry c.args.mark (item_of x)) items i c.last-place.result =
-      mark-place c.args.mark low items c.approach-near.new.self.nodes i c.last-place.result c.approach-near.ensures.within listed.stored listed.nodes
-      (c.last-place.ensures ∙ ap (λ n. last_up (λ k. k == n) c.clear.new.self (length c.clear.new.self)) c.node_number.ensures
+  -- the ordinal of the mark, without the entry that moves
+  placed : c.if-ordinal-near.to ≡ last_place (λ x. is_entry c.args.mark (item_of x)) (reverse (remove items i))
+  placed = let low : c.args.mark < nowhere = omega arith in let listed = c.approach-near.new.self.listed in
+      let ordinal : IsPlaceWithout (λ x. is_entry c.args.mark (item_of x)) items i c.last-ordinal.result =
+      mark-ordinal c.args.mark low items c.approach-near.new.self.nodes i c.last-ordinal.result c.approach-near.ensures.within listed.stored listed.nodes
+      (c.last-ordinal.ensures ∙ ap (λ n. last_up (λ k. k == n) c.clear.new.self (length c.clear.new.self)) c.node_number.ensures
       ∙ ap (λ l. last_up (λ k. k == suc (suc c.args.mark)) l (length l)) c.clear.ensures) in
-      elim c.if-place-near.branch [
-        | then-place-near w ↦ w.to-is ∙ place.below w.if-place-near.true
-        | else-place-near w ↦ w.to-is ∙ place.above w.if-place-near.false
-      ]
+      elim c.if-ordinal-near.branch
+      [ then-ordinal-near w ↦ w.to-is ∙ ordinal.below w.if-ordinal-near.true | else-ordinal-near w ↦ w.to-is ∙ ordinal.above w.if-ordinal-near.false ]
 
 pub invariant_of-self : goal.invariant_of-self
-invariant_of-self c =
-    let s = (goal.at.invariant_of-self c).After-set_node in
-    let near = c.approach-near in
+invariant_of-self c = let s = (goal.at.invariant_of-self c).After-set_node in let near = c.approach-near in
     record {
-      listed = listed-renewed c.args.node near.result near.new.self refl near.ensures.within (entry s) (omega arith)
-          refl refl (c.set.ensures ∙ ap (λ n. set c.clear.new.self near.result n) c.node_number-2.ensures
-          ∙ ap (λ ns. set ns near.result (suc (suc c.args.node))) c.clear.ensures) refl (ap (set (items s) near.result) (renamed s));
+      listed = listed-renewed c.args.node near.result near.new.self refl near.ensures.within (entry s) (omega arith) refl refl (c.set.ensures
+          ∙ ap (λ n. set c.clear.new.self near.result n) c.node_number-2.ensures ∙ ap (λ ns. set ns near.result (suc (suc c.args.node))) c.clear.ensures) refl
+          (ap (set (items s) near.result) (renamed s));
     }
 
 pub carry-requires-clause-to : goal.carry-requires-clause-to
-carry-requires-clause-to c =
-    let s = (goal.at.carry-requires-clause-to c).After-set_node in
-    let rest = remove (items s) (i s) in
+carry-requires-clause-to c = let s = (goal.at.carry-requires-clause-to c).After-set_node in let rest = remove (items s) (i s) in
     omega (
       arith,
       placed s,
@@ -58,17 +49,13 @@ carry-requires-clause-to c =
     )
 
 pub returns : goal.returns
-returns c =
-    let s = (goal.at.returns c).After-set_node in
-    let near = c.approach-near in
-    let old = c.args.self.now.items.items in
-    let there = any-same c.args.mark (omega arith) old (items s) c.args.index near.result c.args.self.now.listed.stored near.new.self.listed.stored near.ensures.rest
-    ∙ c.requires.mark in
+returns c = let s = (goal.at.returns c).After-set_node in let near = c.approach-near in let old = c.args.self.now.items.items in
+    let there = any-same c.args.mark (omega arith) old (items s) c.args.index near.result c.args.self.now.listed.stored near.new.self.listed.stored
+    near.ensures.rest ∙ c.requires.mark in
     record {
-      items = ap live (ap listed_items c.carry.ensures.items
-          ∙ moved-after c.args.node c.args.mark (items s) near.result c.if-place-near.to c.set_node.new.self near.ensures.within (entry s) (renamed s)
-          (placed s) there
-          ∙ ap (λ x. item_put_before (is_entry c.args.mark) (for_node c.args.node (item_of x)) (listed_items (remove (items s) near.result))) near.ensures.entry)
+      items = ap live (ap listed_items c.carry.ensures.items ∙ moved-after c.args.node c.args.mark (items s) near.result c.if-ordinal-near.to
+          c.set_node.new.self near.ensures.within (entry s) (renamed s) (placed s) there ∙ ap
+          (λ x. item_put_before (is_entry c.args.mark) (for_node c.args.node (item_of x)) (listed_items (remove (items s) near.result))) near.ensures.entry)
           ∙ put-same c.args.mark (omega arith) old (items s) c.args.index near.result c.args.self.now.listed.stored near.new.self.listed.stored
           near.ensures.rest c.args.node c.requires.entry c.requires.within;
     }

@@ -3,21 +3,18 @@ use Rattle.hopen.proofs.Moved.{listed-exchanged}
 use Rattle.hopen.proofs.slots.Slots.swap.Goals as goal
 
 pub invariant_of-self : goal.invariant_of-self
-invariant_of-self c =
-    let most = c.max-self.ensures in
-    let within = c.args.self.now.listed.within in
+invariant_of-self c = let most = c.max-self.ensures in let within = c.args.self.now.listed.within in
     record {
-      listed = listed-exchanged c.args.index (c.args.index + 1) c.args.self.now (omega arith) c.requires.within refl c.swap.ensures
-          (λ some. c.swap-then-is_some.ensures) c.swap-2.ensures c.swap-3.ensures.items
-          (omega arith, omega arith, omega arith, omega arith);
+      listed =
+          listed-exchanged c.args.index (c.args.index + 1) c.args.self.now (omega arith) c.requires.within refl c.swap.ensures
+          (λ some. c.swap-then-is_some.ensures) c.swap-2.ensures c.swap-3.ensures.items (omega arith, omega arith, omega arith, omega arith);
     }
 
 pub invariant_of-self-else-is_some : goal.invariant_of-self-else-is_some
-invariant_of-self-else-is_some c =
-    let most = c.max-self.ensures in
-    let within = c.args.self.now.listed.within in
+invariant_of-self-else-is_some c = let most = c.max-self.ensures in let within = c.args.self.now.listed.within in
     record {
-      listed = listed-exchanged c.args.index (c.args.index + 1) c.args.self.now (omega arith) c.requires.within refl c.swap.ensures
+      listed =
+          listed-exchanged c.args.index (c.args.index + 1) c.args.self.now (omega arith) c.requires.within refl c.swap.ensures
           (λ some. absurd (false≢true (sym c.if-is_some.false ∙ c.is_some.ensures ∙ some))) c.swap-2.ensures c.swap-3.ensures.items
           (omega arith, omega arith, omega arith, omega arith);
     }

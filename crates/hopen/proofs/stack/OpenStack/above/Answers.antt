@@ -4,11 +4,9 @@ use Rattle.hopen.proofs.Searches.{above-level}
 use Rattle.hopen.proofs.stack.OpenStack.above.Goals as goal
 
 pub slice_bounds-last_open-end : goal.slice_bounds-last_open-end
-slice_bounds-last_open-end c =
-    let items = c.self.inside.items.items in
+slice_bounds-last_open-end c = let items = c.self.inside.items.items in
     let level = c.of_node-level.ensures ∙ node-level _ _ items c.self.invariant.rests.stands.nodes c.args.node in
-    sym (length-take-le c.saturating_sub.result c.deref.result.now
-    (omega (
+    sym (length-take-le c.saturating_sub.result c.deref.result.now (omega (
       arith,
       level-within (is_node c.args.node) items c.of_node-level.result level,
       c.saturating_sub.ensures,
