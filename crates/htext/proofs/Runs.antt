@@ -1,11 +1,7 @@
 -- Runs of plain bytes, each a character.
-use Rattle.htext.proofs.Names.{zero, ◌≡◌, ℕ, ◌<◌, ◌+◌, ◌-◌, suc, Bool, true, false, cond, List, [], ◌∷◌, ◌++◌, length, take, drop, sym, refl, ap, ◌∙◌, arith, encode_utf8_all, list_all, prefix_len, take-append-drop, list_all-append, and_parts, and_from, chars, IsUtf8, len_utf8, placed, is_plain_byte}
-use Rattle.std.specs.List.{slice_range}
-use Rattle.std.proofs.lemmas.Str.{chars-IsAscii, encodes-IsAscii}
-use Rattle.std.specs.Str.{IsAscii}
-use Rattle.names.specs.Placed.{all}
+use Rattle.htext.proofs.Names.{nat_tests, zero, ◌≡◌, ℕ, ◌<◌, ◌+◌, ◌-◌, suc, Bool, true, List, [], ◌∷◌, ◌++◌, length, take, drop, refl, ap, ◌∙◌, arith, encode_utf8_all, list_all, prefix_len, take-append-drop, list_all-append, and_parts, chars, IsUtf8, len_utf8, placed, is_plain_byte, slice_range, chars-IsAscii, encodes-IsAscii, IsAscii, all}
 use Rattle.htext.proofs.Parts.{placed-append as placed_text}
-use Rattle.htext.proofs.Plain.{plain_small}
+use Rattle.htext.proofs.Beginnings.{plain_small}
 -- under the name by which the crates above cite it
 pub use Rattle.std.proofs.Math.Seq.{take-add as take_more}
 
@@ -24,10 +20,7 @@ plain_bytes xs h = encodes-IsAscii xs (plain_ascii xs h)
 -- what is counted passes
 pub counted : (test : ℕ → Bool) (xs : List ℕ) → list_all test (take (prefix_len test xs) xs) ≡ true
 counted test [] = refl
-counted test (x ∷ xs) = by (test x) refl (counted test xs) where
-  by : (b : Bool) → test x ≡ b → list_all test (take (prefix_len test xs) xs) ≡ true → list_all test (take (cond b (1 + prefix_len test xs) 0) (x ∷ xs)) ≡ true
-  by true e more = let next : 1 + prefix_len test xs ≡ suc (prefix_len test xs) = omega arith in rw next (and_from _ _ e more)
-  by false e more = refl
+counted test (x ∷ xs) = let next : 1 + prefix_len test xs ≡ suc (prefix_len test xs) = omega arith in grind (arith, nat_tests, counted test xs, next)
 
 -- the front of a slice
 pub front_of : (n : ℕ) (xs : List ℕ) → slice_range xs 0 n ≡ take n xs
@@ -42,4 +35,4 @@ pub placed-append : (at : ℕ) (xs ys : List ℕ) → list_all is_plain_byte xs 
 placed-append at xs ys h = placed_text at xs ys ∙ ap (λ (n : ℕ). placed at xs ++ placed (at + n) ys) (ap length (plain_bytes xs h))
 
 pub plain_take : (n : ℕ) (xs : List ℕ) → list_all is_plain_byte xs ≡ true → list_all is_plain_byte (take n xs) ≡ true
-plain_take n xs h = (and_parts _ (list_all is_plain_byte (drop n xs)) (sym (list_all-append is_plain_byte (take n xs) (drop n xs)) ∙ ap (list_all is_plain_byte) (take-append-drop n xs) ∙ h)).0
+plain_take n xs h = grind (arith, list_all-append is_plain_byte (take n xs) (drop n xs), take-append-drop n xs)

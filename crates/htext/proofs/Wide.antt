@@ -1,13 +1,8 @@
 -- Runs of characters in a text, by its bytes.
-use Rattle.htext.proofs.Names.{◌≡◌, ℕ, ◌≤◌, ◌+◌, true, false, eqb, List, [], ◌∷◌, ◌++◌, map, length, take, drop, get_or, sym, refl, ap, ◌∙◌, subst, arith, append-nil, Result, Ok, Err, encode_utf8_all, list_all, nat_tests, and_parts, eqb-true, take_at, drop_at, take-append-drop, length-append, length-take-le, length-drop, drop-drop, nil_from_length, take-add, chars-append, encodes-chars, IsUtf8-append, IsUtf8-encode, IsUtf8-drop, length-encode, chars_past_char, chars-nil, scalars, chars, IsUtf8, IsScalar, encode_utf8, len_utf8, placed, Hands, Continues, Placed, Refusal, Bom, Whole, normalized, ends_in_return, CharItem, Character, items, is_clean, run_items, IsCut, IsCleanFront}
-use Rattle.std.proofs.Math.Seq.{get_or-append_seam}
-use Rattle.std.proofs.lemmas.Str.{scalars-chars, IsUtf8-take}
-use Rattle.std.specs.Str.{IsCharBoundary}
-use Rattle.names.proofs.Handing.{Continues-more}
+use Rattle.htext.proofs.Names.{◌≡◌, ℕ, ◌≤◌, ◌+◌, true, false, eqb, List, [], ◌∷◌, ◌++◌, map, length, take, drop, get_or, sym, refl, ap, ◌∙◌, subst, arith, append-nil, Result, Ok, Err, encode_utf8_all, list_all, nat_tests, and_parts, eqb-true, take_at, drop_at, take-append-drop, length-append, length-take-le, length-drop, drop-drop, nil_from_length, take-add, chars-append, encodes-chars, IsUtf8-append, IsUtf8-encode, IsUtf8-drop, length-encode, chars_past_char, chars-nil, scalars, chars, IsUtf8, IsScalar, encode_utf8, len_utf8, placed, Hands, Continues, Placed, Refusal, Bom, Whole, normalized, ends_in_return, CharItem, items, is_clean, run_items, IsCut, IsCleanFront, get_or-append_seam, scalars-chars, IsUtf8-take, IsCharBoundary, Continues-more}
 use Rattle.htext.proofs.Handing.{Hands-front}
 use Rattle.htext.proofs.Parts.{placed-append}
-use Rattle.htext.proofs.Beginnings.{bytes_of}
-use Rattle.htext.proofs.Plain.{no_return, as_it_came, item_alone, begins_anew}
+use Rattle.htext.proofs.Beginnings.{bytes_of, no_return, as_it_came, item_alone, begins_anew}
 
 -- WHAT STANDS IN A TEXT
 
@@ -22,7 +17,7 @@ module _ (n : ℕ) (bytes : List ℕ) (cut : IsCut n bytes) where
   front_long = long_as (take n bytes) cut.front ∙ length-take-le n bytes cut.within
 
   pub placed_cut : (at : ℕ) → placed at (chars bytes) ≡ placed at (chars (take n bytes)) ++ placed (at + n) (chars (drop n bytes))
-  placed_cut at = ap (placed at) chars_cut ∙ placed-append at (chars (take n bytes)) (chars (drop n bytes)) ∙ ap (λ (k : ℕ). placed at (chars (take n bytes)) ++ placed (at + k) (chars (drop n bytes))) front_long
+  placed_cut at = grind (arith, chars_cut, placed-append at (chars (take n bytes)) (chars (drop n bytes)), front_long)
 
 -- and what follows is cut again
 module _ (n m : ℕ) (bytes : List ℕ) (cut : IsCut n bytes) (again : IsCut m (drop n bytes)) where
@@ -34,9 +29,8 @@ module _ (n m : ℕ) (bytes : List ℕ) (cut : IsCut n bytes) (again : IsCut m (
   }
 
   pub placed_more : (at : ℕ) → placed at (chars (take (n + m) bytes)) ≡ placed at (chars (take n bytes)) ++ placed (at + n) (chars (take m (drop n bytes)))
-  placed_more at =
-      ap (λ (l : List ℕ). placed at (chars l)) (take-add n m bytes) ∙ ap (placed at) (chars-append (take n bytes) (take m (drop n bytes)) cut.front)
-      ∙ placed-append at (chars (take n bytes)) (chars (take m (drop n bytes))) ∙ ap (λ (k : ℕ). placed at (chars (take n bytes)) ++ placed (at + k) (chars (take m (drop n bytes)))) (front_long n bytes cut)
+  placed_more at = let more = take m (drop n bytes) in let both = chars-append (take n bytes) more cut.front in
+      grind (arith, take-add n m bytes, both, placed-append at (chars (take n bytes)) (chars more), front_long n bytes cut)
 
 -- a text that is empty has no characters, and another one has some
 pub no_characters : (bytes : List ℕ) → true ≡ eqb (length bytes) 0 → chars bytes ≡ []
@@ -57,53 +51,48 @@ module _ (bytes : List ℕ) (u : IsUtf8 bytes) (c : ℕ) (cs : List ℕ) (is : c
   first_scalars = and_parts _ (scalars cs) (sym (ap scalars is) ∙ scalars-chars bytes u)
 
   pub first_cut : IsCut (len_utf8 c) bytes
-  first_cut = record {
-    within = omega (arith, ap length first_bytes, length-append (encode_utf8 c) (encode_utf8_all cs), length-encode c);
-    front = subst IsUtf8 (sym first_front) (IsUtf8-encode c first_scalars.0);
-    back = subst IsUtf8 (sym (ap (drop (len_utf8 c)) first_bytes ∙ drop_at (encode_utf8 c) (encode_utf8_all cs) (len_utf8 c) (length-encode c))) (cs, (first_scalars.1, refl));
-  }
+  first_cut = let within : len_utf8 c ≤ length bytes = grind (arith, first_bytes, length-append (encode_utf8 c) (encode_utf8_all cs), length-encode c) in
+      let rest : drop (len_utf8 c) bytes ≡ encode_utf8_all cs = rw first_bytes (drop_at (encode_utf8 c) (encode_utf8_all cs) (len_utf8 c) (length-encode c)) in
+      record { within = within; front = rw first_front (IsUtf8-encode c first_scalars.0); back = rw rest (cs, (first_scalars.1, refl)) }
 
   pub first_char : (at : ℕ) → record { ch = c; at = at } ∷ [] ≡ placed at (chars (take (len_utf8 c) bytes))
-  first_char at = ap (placed at) (sym (ap chars (first_front ∙ sym (append-nil (encode_utf8 c))) ∙ chars_past_char (encode_utf8 c ++ []) [] c (subst IsUtf8 (sym (append-nil (encode_utf8 c))) (IsUtf8-encode c first_scalars.0)) refl ∙ ap (λ (l : List ℕ). c ∷ l) chars-nil))
+  first_char at = grind (arith, first_front, append-nil (encode_utf8 c), chars_past_char (encode_utf8 c ++ []) [] c, IsUtf8-encode c first_scalars.0, chars-nil)
 
 -- and the last one, which begins after `n` bytes
 pub cut_last : (bytes xs : List ℕ) (c n : ℕ) → IsUtf8 bytes → bytes ≡ xs ++ encode_utf8 c → n ≡ length xs → IsCut n bytes
-cut_last bytes xs c n u is here =
-    let (b, bs, first, anew) = begins_anew c (encode_utf8 c) (bytes_of c) in
-    let e : bytes ≡ xs ++ b ∷ bs = is ∙ ap (λ (l : List ℕ). xs ++ l) first in
-    let within : n ≤ length bytes = omega (arith, here, ap length e, length-append xs (b ∷ bs)) in
-    let lead : get_or bytes n 0 ≡ b = ap (λ (l : List ℕ). get_or l n 0) e ∙ ap (λ (k : ℕ). get_or (xs ++ b ∷ bs) k 0) here ∙ get_or-append_seam xs b bs 0 in
+cut_last bytes xs c n u is here = let (b, bs, first, anew) = begins_anew c (encode_utf8 c) (bytes_of c) in
+    let within : n ≤ length bytes = grind (arith, is, length-append xs (encode_utf8 c)) in
+    let lead : get_or bytes n 0 ≡ b = grind (arith, is, first, here, get_or-append_seam xs b bs 0) in
     let edge : IsCharBoundary bytes n = (within, λ l a. omega (arith, lead, anew (omega (arith, lead, a)))) in
     record { within = within; front = IsUtf8-take bytes n u edge; back = IsUtf8-drop bytes n u edge }
 
-pub last_char : (n at : ℕ) (bytes : List ℕ) (c : ℕ) → IsCut n bytes → drop n bytes ≡ encode_utf8 c → placed at (chars bytes) ≡ placed at (chars (take n bytes)) ++ record { ch = c; at = at + n } ∷ []
-last_char n at bytes c cut is =
-    placed_cut n bytes cut at
-    ∙ ap (λ (l : List ℕ). placed at (chars (take n bytes)) ++ placed (at + n) l) (chars_past_char (drop n bytes) [] c cut.back (is ∙ sym (append-nil (encode_utf8 c))) ∙ ap (λ (l : List ℕ). c ∷ l) chars-nil)
+pub last_char : (n at : ℕ) (bytes : List ℕ) (c : ℕ) → IsCut n bytes → drop n bytes ≡ encode_utf8 c
+    → placed at (chars bytes) ≡ placed at (chars (take n bytes)) ++ record { ch = c; at = at + n } ∷ []
+last_char n at bytes c cut is = grind (arith, placed_cut n bytes cut at, chars_past_char (drop n bytes) [] c cut.back, append-nil (encode_utf8 c), chars-nil)
 
-text_of : (bom : Bom) (at : ℕ) (cs : List ℕ) (ps : List Placed) → list_all is_clean cs ≡ true → items (normalized bom false (map Whole (placed at cs ++ ps))) ≡ run_items at cs ++ items (normalized bom false (map Whole ps))
+text_of : (bom : Bom) (at : ℕ) (cs : List ℕ) (ps : List Placed) → list_all is_clean cs ≡ true
+    → items (normalized bom false (map Whole (placed at cs ++ ps))) ≡ run_items at cs ++ items (normalized bom false (map Whole ps))
 text_of bom at [] ps a = refl
-text_of bom at (x ∷ xs) ps a =
-    let k = and_parts (is_clean x) (list_all is_clean xs) a in
-    rw (as_it_came bom x at k.0, no_return x k.0, item_alone x at k.0) (ap (λ (i : List CharItem). Character (record { ch = x; at = at }) ∷ i) (text_of bom (at + len_utf8 x) xs ps k.1))
+text_of bom at (x ∷ xs) ps a = grind (arith, nat_tests, as_it_came bom x at, no_return x, item_alone x at, text_of bom (at + len_utf8 x) xs ps)
 
-end_of : (at : ℕ) (cs : List ℕ) (ps : List Placed) → list_all is_clean cs ≡ true → ends_in_return false (map Whole (placed at cs ++ ps)) ≡ ends_in_return false (map Whole ps)
+end_of : (at : ℕ) (cs : List ℕ) (ps : List Placed) → list_all is_clean cs ≡ true
+    → ends_in_return false (map Whole (placed at cs ++ ps)) ≡ ends_in_return false (map Whole ps)
 end_of at [] ps a = refl
 end_of at (x ∷ xs) ps a = let k = and_parts (is_clean x) (list_all is_clean xs) a in rw (ends_in_return, no_return x k.0) (end_of (at + len_utf8 x) xs ps k.1)
 
-pub ends_after : (n at : ℕ) (bytes : List ℕ) → IsCleanFront n bytes → ends_in_return false (map Whole (placed at (chars bytes))) ≡ ends_in_return false (map Whole (placed (at + n) (chars (drop n bytes))))
-ends_after n at bytes is = ap (λ (ps : List Placed). ends_in_return false (map Whole ps)) (placed_cut n bytes is.cut at) ∙ end_of at (chars (take n bytes)) _ is.clean
+pub ends_after : (n at : ℕ) (bytes : List ℕ) → IsCleanFront n bytes
+    → ends_in_return false (map Whole (placed at (chars bytes))) ≡ ends_in_return false (map Whole (placed (at + n) (chars (drop n bytes))))
+ends_after n at bytes is = grind (arith, placed_cut n bytes is.cut at, end_of at (chars (take n bytes)) (placed (at + n) (chars (drop n bytes))) is.clean)
 
 -- A loop that hands over a text, of which `bytes` are left, at the place `at` and not after a CR, hands over a run at their front.
-module _ {S : Type 0} (gives : S → CharItem → Result (Unit {0}) Refusal → S → Type 0) (bom : Bom) (old : S) (all : List CharItem) (now : S) (at n : ℕ) (bytes : List ℕ)
-    (continues : Continues gives old all now (items (normalized bom false (map Whole (placed at (chars bytes)))))) (is : IsCleanFront n bytes) where
+module _ {S : Type 0} (gives : S → CharItem → Result (Unit {0}) Refusal → S → Type 0) (bom : Bom) (old : S) (all : List CharItem) (now : S) (at n : ℕ)
+    (bytes : List ℕ) (continues : Continues gives old all now (items (normalized bom false (map Whole (placed at (chars bytes))))))
+    (is : IsCleanFront n bytes) where
   abbrev rest : List CharItem
   rest = items (normalized bom false (map Whole (placed (at + n) (chars (drop n bytes)))))
 
   run_on : Continues gives old all now (run_items at (chars (take n bytes)) ++ rest)
-  run_on = subst (λ (x : List CharItem). Continues gives old all now x)
-      (ap (λ (ps : List Placed). items (normalized bom false (map Whole ps))) (placed_cut n bytes is.cut at) ∙ text_of bom at (chars (take n bytes)) (placed (at + n) (chars (drop n bytes))) is.clean)
-      continues
+  run_on = rw (placed_cut n bytes is.cut at, text_of bom at (chars (take n bytes)) (placed (at + n) (chars (drop n bytes))) is.clean) at continues
 
   pub run_more : (next : S) → Hands gives now (run_items at (chars (take n bytes))) (Ok tt) next → Continues gives old all next rest
   run_more next h = Continues-more gives old now next all (run_items at (chars (take n bytes))) rest run_on h
@@ -113,22 +102,23 @@ module _ {S : Type 0} (gives : S → CharItem → Result (Unit {0}) Refusal → 
 
 -- ONE CHARACTER OF A TEXT AFTER ANOTHER
 
-pub text_step : (at : ℕ) (bytes others : List ℕ) (c : ℕ) → IsUtf8 bytes → bytes ≡ encode_utf8 c ++ others → placed at (chars bytes) ≡ record { ch = c; at = at } ∷ placed (at + length (encode_utf8 c)) (chars others)
-text_step at bytes others c u is = ap (placed at) (chars_past_char bytes others c u is) ∙ ap (λ (n : ℕ). record { ch = c; at = at } ∷ placed (at + n) (chars others)) (sym (length-encode c))
+pub text_step : (at : ℕ) (bytes others : List ℕ) (c : ℕ) → IsUtf8 bytes → bytes ≡ encode_utf8 c ++ others
+    → placed at (chars bytes) ≡ record { ch = c; at = at } ∷ placed (at + length (encode_utf8 c)) (chars others)
+text_step at bytes others c u is = grind (arith, chars_past_char bytes others c u is, length-encode c)
 
 -- A loop that hands over the characters of a text, of which `bytes` are left, at the place `at`.
-module _ {S X : Type 0} (gives : S → X → Result (Unit {0}) Refusal → S → Type 0) (item : Placed → X) (old : S) (all : List X) (now : S) (at : ℕ) (bytes : List ℕ)
-    (continues : Continues gives old all now (map item (placed at (chars bytes)))) where
+module _ {S X : Type 0} (gives : S → X → Result (Unit {0}) Refusal → S → Type 0) (item : Placed → X) (old : S) (all : List X) (now : S) (at : ℕ)
+    (bytes : List ℕ) (continues : Continues gives old all now (map item (placed at (chars bytes)))) where
   pub none_left : length bytes ≡ 0 → Hands gives old all (Ok tt) now
-  none_left none = continues (Ok tt) now (subst (λ (l : List ℕ). Hands gives now (map item (placed at l)) (Ok tt) now) (sym (ap chars (nil_from_length bytes none) ∙ chars-nil)) (refl, refl))
+  none_left none = continues (Ok tt) now (rw (nil_from_length bytes none, chars-nil) (refl, refl))
 
   module _ (c : ℕ) (others : List ℕ) (u : IsUtf8 bytes) (is : bytes ≡ encode_utf8 c ++ others) (place : ℕ) (here : place ≡ at) where
     one_on : Continues gives old all now (item (record { ch = c; at = place }) ∷ map item (placed (at + length (encode_utf8 c)) (chars others)))
-    one_on = subst (λ (x : List X). Continues gives old all now x)
-        (ap (map item) (text_step at bytes others c u is) ∙ ap (λ (n : ℕ). item (record { ch = c; at = n }) ∷ map item (placed (at + length (encode_utf8 c)) (chars others))) (sym here)) continues
+    one_on = rw here (rw (text_step at bytes others c u is) at continues)
 
-    pub one_more : (next : S) (later : ℕ) → later ≡ at + length (encode_utf8 c) → gives now (item (record { ch = c; at = place })) (Ok tt) next → Continues gives old all next (map item (placed later (chars others)))
-    one_more next later l given = λ answer new h. one_on answer new (Ok tt, next, given, subst (λ (n : ℕ). Hands gives next (map item (placed n (chars others))) answer new) l h)
+    pub one_more : (next : S) (later : ℕ) → later ≡ at + length (encode_utf8 c) → gives now (item (record { ch = c; at = place })) (Ok tt) next
+        → Continues gives old all next (map item (placed later (chars others)))
+    one_more next later l given = λ answer new h. one_on answer new (Ok tt, next, given, rw l at h)
 
     pub one_refused : (next : S) (e : Refusal) → gives now (item (record { ch = c; at = place })) (Err e) next → Hands gives old all (Err e) next
     one_refused next e given = one_on (Err e) next (Err e, next, given, (refl, refl))

@@ -9,8 +9,9 @@ invariant-loop-count g l = record {
   bom : l.self.bom ≡ l.fn.self.bom;
   bad : l.self.bad_bytes ≡ l.fn.self.bad_bytes;
   limit : l.self.limit ≡ l.fn.self.limit;
-  turned : (all : List ℕ) → IsReading (policy l.self.bom l.self.bad_bytes l.self.limit) l.fn.self.read l.fn.self.after_return all → l.bytes ≡ drop l.fn.self.read all
-      → HasTurned g.S.CharSink.gives (policy l.self.bom l.self.bad_bytes l.self.limit) (text l.self.bom (take l.fn.self.read all)) all l.bytes l.count l.self.read l.self.after_return l.fn.sink l.sink;
+  turned : (all : List ℕ) → IsReading (policy l.self.bom l.self.bad_bytes l.self.limit) l.fn.self.read l.fn.self.after_return all
+      → l.bytes ≡ drop l.fn.self.read all → HasTurned g.S.CharSink.gives (policy l.self.bom l.self.bad_bytes l.self.limit)
+      (text l.self.bom (take l.fn.self.read all)) all l.bytes l.count l.self.read l.self.after_return l.fn.sink l.sink;
 }
 
 abbrev pub decreases-loop-count : goal.decreases-loop-count

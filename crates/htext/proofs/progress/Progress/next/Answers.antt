@@ -1,5 +1,5 @@
 use Rattle.htext.proofs.Names.{rules, sym, ◌∙◌}
-use Rattle.htext.proofs.Deciding.{nothing_waits, text_next}
+use Rattle.htext.proofs.Stopping.{nothing_waits, text_next}
 use Rattle.htext.proofs.progress.Progress.next.Goals as goal
 use Rattle.htext.proofs.progress.Progress.next.Goals.{in-Ok-empty, in-Err}
 
