@@ -13,9 +13,6 @@ use std::alloc::AllocError;
 /// The most names that numbers of 32 bits tell apart.
 const MAX_NUMBER: usize = 4_294_967_295;
 
-/// Whether an attribute has ended before a character, which is taken otherwise.
-type Past = Result<bool, AllocError>;
-
 impl<'t> TagWalk<'t> {
     /// Takes the next character; returns whether the tag has ended with it. Each call for one tag is handed the same tables and
     /// the errors that the calls before it left.
@@ -48,8 +45,14 @@ impl<'t> TagWalk<'t> {
         }
     }
 
+    /// A state in an attribute. Returns whether the attribute has ended before the character, which is taken otherwise.
     #[inline(always)]
-    fn in_attribute(&mut self, table: &'t Table, next: Placed, errors: &mut Errors) -> Past
+    fn in_attribute(
+        &mut self,
+        table: &'t Table,
+        next: Placed,
+        errors: &mut Errors,
+    ) -> Result<bool, AllocError>
         requires { is_in_attribute self.old.phase ≡ true }
         ensures takes { (names : Texts) → StepsInAttribute table.now names self.old next errors.old.items result self.new errors.new.items }
         ensures kind { OnOk result (self.new.kind ≡ self.old.kind) }
@@ -72,9 +75,14 @@ impl<'t> TagWalk<'t> {
     }
 
     /// The attribute name state (`#attribute-name-state`), and, where white space came after the name, the after attribute name state
-    /// (`#after-attribute-name-state`).
+    /// (`#after-attribute-name-state`). Returns whether the name has ended before the character, which is taken otherwise.
     #[inline(always)]
-    fn in_attribute_name(&mut self, spaced: bool, next: Placed, errors: &mut Errors) -> Past
+    fn in_attribute_name(
+        &mut self,
+        spaced: bool,
+        next: Placed,
+        errors: &mut Errors,
+    ) -> Result<bool, AllocError>
         requires { self.old.phase ≡ (if spaced then TagState.AfterAttributeName else TagState.AttributeName) }
         ensures takes { (table : Entities) (names : Texts) → StepsInAttribute table names self.old next errors.old.items result self.new errors.new.items }
         ensures kind { OnOk result (self.new.kind ≡ self.old.kind) }
@@ -105,14 +113,14 @@ impl<'t> TagWalk<'t> {
         self.attribute.push(kept(next.ch).to_ascii_lowercase())
     }
 
-    /// The before attribute value state (`#before-attribute-value-state`).
+    /// The before attribute value state (`#before-attribute-value-state`). Returns whether the attribute has ended before the character.
     #[inline(always)]
     fn before_attribute_value(
         &mut self,
         table: &'t Table,
         next: Placed,
         errors: &mut Errors,
-    ) -> Past
+    ) -> Result<bool, AllocError>
         requires { self.old.phase ≡ TagState.BeforeAttributeValue }
         ensures takes { (names : Texts) → StepsInAttribute table.now names self.old next errors.old.items result self.new errors.new.items }
         ensures kind { OnOk result (self.new.kind ≡ self.old.kind) }
@@ -134,7 +142,7 @@ impl<'t> TagWalk<'t> {
     }
 
     /// The attribute value (double-quoted) and attribute value (single-quoted) states (`#attribute-value-(double-quoted)-state`,
-    /// `#attribute-value-(single-quoted)-state`).
+    /// `#attribute-value-(single-quoted)-state`). Returns `false`: the attribute does not end before its second quote.
     #[inline(always)]
     fn in_attribute_value_quoted(
         &mut self,
@@ -142,7 +150,7 @@ impl<'t> TagWalk<'t> {
         mark: char,
         next: Placed,
         errors: &mut Errors,
-    ) -> Past
+    ) -> Result<bool, AllocError>
         requires { self.old.phase ≡ TagState.AttributeValueQuoted mark }
         ensures takes { (names : Texts) → StepsInAttribute table.now names self.old next errors.old.items result self.new errors.new.items }
         ensures kind { OnOk result (self.new.kind ≡ self.old.kind) }
@@ -156,13 +164,14 @@ impl<'t> TagWalk<'t> {
         Ok(false)
     }
 
-    /// The attribute value (unquoted) state (`#attribute-value-(unquoted)-state`).
+    /// The attribute value (unquoted) state (`#attribute-value-(unquoted)-state`). Returns whether the attribute has ended before the
+    /// character.
     fn in_attribute_value_unquoted(
         &mut self,
         table: &'t Table,
         next: Placed,
         errors: &mut Errors,
-    ) -> Past
+    ) -> Result<bool, AllocError>
         requires { self.old.phase ≡ TagState.AttributeValueUnquoted }
         ensures takes { (names : Texts) → StepsInAttribute table.now names self.old next errors.old.items result self.new errors.new.items }
         ensures kind { OnOk result (self.new.kind ≡ self.old.kind) }
@@ -175,9 +184,14 @@ impl<'t> TagWalk<'t> {
         Ok(false)
     }
 
-    /// The after attribute value (quoted) state (`#after-attribute-value-(quoted)-state`).
+    /// The after attribute value (quoted) state (`#after-attribute-value-(quoted)-state`). Returns `true`: the attribute has ended before the
+    /// character.
     #[inline(always)]
-    fn after_attribute_value_quoted(&mut self, next: Placed, errors: &mut Errors) -> Past
+    fn after_attribute_value_quoted(
+        &mut self,
+        next: Placed,
+        errors: &mut Errors,
+    ) -> Result<bool, AllocError>
         requires { self.old.phase ≡ TagState.AfterAttributeValueQuoted }
         ensures takes { (table : Entities) (names : Texts) → StepsInAttribute table names self.old next errors.old.items result self.new errors.new.items }
         ensures kind { OnOk result (self.new.kind ≡ self.old.kind) }

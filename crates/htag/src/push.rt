@@ -3,14 +3,11 @@
 ghost use Rattle.std.specs.Prelude.{◌≡◌, ◌&&◌, ◌∷◌, ◌++◌, [], not, OnOk, string_bytes, encode_utf8_all};
 ghost use Rattle.htag.specs.Vocabulary.{error_if, null_errors, without_null, ends_name, is_odd};
 
-use names::{ErrorCode, ParseError, Placed, Refusal};
+use names::{ErrorCode, ParseError, Placed};
 use std::alloc::AllocError;
 
 /// The errors that were raised, in the order of the text.
 pub(crate) type Errors = Vec<ParseError>;
-
-/// Whether a tag has ended with a character, or why it was not taken.
-pub(crate) type Ended = Result<bool, Refusal>;
 
 #[inline(always)]
 pub(crate) fn ends_name(ch: char) -> bool

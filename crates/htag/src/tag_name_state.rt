@@ -3,16 +3,16 @@
 ghost use Rattle.std.specs.Prelude.{◌≡◌, OnOk};
 ghost use Rattle.htag.specs.Vocabulary.{BeginsAttribute, Texts, Entities, StepsInTag};
 
-use crate::push::{Ended, Errors, ends_name, keep_if, keep_null, kept};
+use crate::push::{Errors, ends_name, keep_if, keep_null, kept};
 use crate::tag_state::TagState;
 use crate::walk::TagWalk;
-use names::{ErrorCode, Placed};
+use names::{ErrorCode, Placed, Refusal};
 use std::alloc::AllocError;
 
 impl<'t> TagWalk<'t> {
-    /// The tag name state (`#tag-name-state`).
+    /// The tag name state (`#tag-name-state`). Returns whether the tag has ended with the character.
     #[inline(always)]
-    pub(crate) fn in_tag_name(&mut self, next: Placed, errors: &mut Errors) -> Ended
+    pub(crate) fn in_tag_name(&mut self, next: Placed, errors: &mut Errors) -> Result<bool, Refusal>
         requires { self.old.phase ≡ TagState.TagName }
         ensures takes { (table : Entities) (names : Texts) → StepsInTag table names names self.old next errors.old.items result self.new errors.new.items }
         ensures kind { OnOk result (self.new.kind ≡ self.old.kind) }
@@ -26,9 +26,13 @@ impl<'t> TagWalk<'t> {
         Ok(false)
     }
 
-    /// The before attribute name state (`#before-attribute-name-state`).
+    /// The before attribute name state (`#before-attribute-name-state`). Returns whether the tag has ended with the character.
     #[inline(always)]
-    pub(crate) fn before_attribute_name(&mut self, next: Placed, errors: &mut Errors) -> Ended
+    pub(crate) fn before_attribute_name(
+        &mut self,
+        next: Placed,
+        errors: &mut Errors,
+    ) -> Result<bool, Refusal>
         requires { self.old.phase ≡ TagState.BeforeAttributeName }
         ensures takes { (table : Entities) (names : Texts) → StepsInTag table names names self.old next errors.old.items result self.new errors.new.items }
         ensures kind { OnOk result (self.new.kind ≡ self.old.kind) }
@@ -61,8 +65,12 @@ impl<'t> TagWalk<'t> {
         self.push_name(next, errors)
     }
 
-    /// The self-closing start tag state (`#self-closing-start-tag-state`), after a `/`.
-    pub(crate) fn self_closing_start_tag(&mut self, next: Placed, errors: &mut Errors) -> Ended
+    /// The self-closing start tag state (`#self-closing-start-tag-state`), after a `/`. Returns whether the tag has ended with the character.
+    pub(crate) fn self_closing_start_tag(
+        &mut self,
+        next: Placed,
+        errors: &mut Errors,
+    ) -> Result<bool, Refusal>
         requires { self.old.phase ≡ TagState.SelfClosingStartTag }
         ensures takes { (table : Entities) (names : Texts) → StepsInTag table names names self.old next errors.old.items result self.new errors.new.items }
         ensures kind { OnOk result (self.new.kind ≡ self.old.kind) }

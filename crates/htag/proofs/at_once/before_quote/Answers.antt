@@ -1,5 +1,4 @@
-use Rattle.htag.proofs.Vocabulary.{arith}
-use Rattle.std.proofs.lemmas.Grind.{common_steps}
+use Rattle.htag.proofs.Vocabulary.{arith, common_steps}
 use Rattle.htag.proofs.at_once.before_quote.Goals as goal
 
 pub loop-index-preserved : goal.loop-index-preserved

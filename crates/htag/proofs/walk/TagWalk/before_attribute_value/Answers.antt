@@ -1,24 +1,18 @@
-use Rattle.htag.proofs.Vocabulary.{◌≡◌, true, not, ◌||◌, refl, arith, nat_tests, is_space, is_quote, is_greater, ends_unquoted}
-use Rattle.htag.proofs.Values.{space_after_equals, quote_follows, no_value_ends, unquoted_begins}
+use Rattle.htag.proofs.Vocabulary.{refl, arith, nat_tests}
+use Rattle.htag.proofs.Values.{keeps_tag, space_after_equals, quote_follows, no_value_ends, unquoted_begins}
 use Rattle.htag.proofs.walk.TagWalk.before_attribute_value.Goals as goal
 
 pub returns-then-is_ascii_whitespace-clause-takes : goal.returns-then-is_ascii_whitespace-clause-takes
-returns-then-is_ascii_whitespace-clause-takes c = λ names body h.
-    let is : is_space c.args.next.ch ≡ true = grind (arith, nat_tests) in
-    space_after_equals _ _ _ body _ _ h _ (record { kind_is = refl; name_is = refl; attrs_are = refl; seen_is = refl; any_is = refl }) refl refl refl c.requires c.requires is
+returns-then-is_ascii_whitespace-clause-takes c =
+    λ names body h. space_after_equals h (keeps_tag refl refl refl refl refl) refl refl refl c.requires c.requires (grind (arith, nat_tests))
 
 pub returns-then-next-eq34-clause-takes : goal.returns-then-next-eq34-clause-takes
-returns-then-next-eq34-clause-takes c = λ names body h.
-    let is : is_quote c.args.next.ch ≡ true = grind (arith, nat_tests) in
-    quote_follows _ _ _ body _ _ h _ (record { kind_is = refl; name_is = refl; attrs_are = refl; seen_is = refl; any_is = refl }) refl refl refl c.requires refl is
+returns-then-next-eq34-clause-takes c =
+    λ names body h. quote_follows h (keeps_tag refl refl refl refl refl) refl refl refl c.requires refl (grind (arith, nat_tests))
 
 pub returns-then-next-eq62-clause-takes : goal.returns-then-next-eq62-clause-takes
-returns-then-next-eq62-clause-takes c = λ names body h after walk later ends.
-    let is : is_greater c.args.next.ch ≡ true = grind (arith, nat_tests) in
-    no_value_ends _ _ _ body _ _ h _ after walk later c.requires c.in_ok-keep_if.ensures is ends
+returns-then-next-eq62-clause-takes c = λ names body h after walk later ends. no_value_ends h c.requires c.in_ok-keep_if.ensures (grind (arith, nat_tests)) ends
 
 pub returns-clause-takes : goal.returns-clause-takes
 returns-clause-takes c = λ names body h.
-    let first : not (ends_unquoted c.args.next.ch || is_quote c.args.next.ch) ≡ true = grind (arith, nat_tests) in
-    let stays : not (ends_unquoted c.args.next.ch) ≡ true = grind (arith, nat_tests) in
-    unquoted_begins _ _ _ body _ _ h _ _ (record { kind_is = refl; name_is = refl; attrs_are = refl; seen_is = refl; any_is = refl }) refl refl c.in_ok-take.ensures c.requires refl first stays
+    unquoted_begins h (keeps_tag refl refl refl refl refl) refl refl c.in_ok-take.ensures c.requires refl (grind (arith, nat_tests)) (grind (arith, nat_tests))

@@ -1,5 +1,4 @@
-use Rattle.htag.proofs.Vocabulary.{true≢false, sym, ap, ◌∙◌, inl, inr}
-use Rattle.htag.specs.TagWalk.{is_in_attribute}
+use Rattle.htag.proofs.Vocabulary.{true≢false, sym, ap, ◌∙◌, inl, inr, is_in_attribute}
 use Rattle.htag.proofs.walk.TagWalk.in_attribute.Goals as goal
 
 pub returns-in-TagName-clause-takes : goal.returns-in-TagName-clause-takes

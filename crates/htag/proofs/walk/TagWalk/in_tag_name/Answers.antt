@@ -4,5 +4,6 @@ use Rattle.htag.proofs.walk.TagWalk.in_tag_name.Goals as goal
 
 pub returns-clause-takes : goal.returns-clause-takes
 returns-clause-takes c = λ table names body h.
-    name_grows _ _ _ body _ _ h c.requires _ _ _ refl refl refl refl (c.in_ok-push.ensures.bytes ∙ ap (λ (x : List ℕ). string_bytes c.args.self.now.name ++ x) (ap encode_utf8 (c.to_ascii_lowercase.ensures.value ∙ ap to_ascii_lowercase c.kept.ensures) ∙ sym (append-nil _))) c.in_ok-keep_null.ensures
+    name_grows h c.requires _ refl refl refl refl (c.in_ok-push.ensures.bytes ∙ ap (λ (x : List ℕ). string_bytes c.args.self.now.name ++ x)
+    (ap encode_utf8 (c.to_ascii_lowercase.ensures.value ∙ ap to_ascii_lowercase c.kept.ensures) ∙ sym (append-nil _))) c.in_ok-keep_null.ensures
     (and_both _ true (ap not (sym c.ends_name.ensures ∙ c.if-ends_name.false)) refl)

@@ -1,4 +1,5 @@
 use Rattle.htag.proofs.Vocabulary.{◌≡◌, [], Bool, ℕ, List, refl, sym, ap, ◌∙◌, subst, Some, length, slice_get, list_all, string_bytes, Attr, true, if◌then◌else◌, grows_not, chars, is_clean, front_of, IsQuietFront, is_no_reference}
+use Rattle.htag.proofs.Values.{keeps_tag}
 use Rattle.htag.proofs.AtOnce.{attribute_is}
 use Rattle.htag.proofs.InRun.{none_cut, none_front, none_taken}
 use Rattle.htag.proofs.Keeping.{other_value}
@@ -6,40 +7,45 @@ use Rattle.htag.proofs.Whole.{attribute, end_cut, from_edge, name_edge, to_edge,
 use Rattle.htag.proofs.walk.TagWalk.whole_attribute.Goals as goal
 
 pub range-written-requires-clause-start_boundary : goal.range-written-requires-clause-start_boundary
-range-written-requires-clause-start_boundary c = λ _. from_edge c.args.run.now _ _ (attribute_is c.args.run.now _ c.word_run-length.result c.in-Some.found c.as_bytes-bytes.ensures.value c.word_run-length.ensures.counted c.if-length-eq0.false c.word_run-length.ensures.few c.in-Some.ensures) c.utf8.run
+range-written-requires-clause-start_boundary c = λ _. from_edge c.args.run.now _ _ (attribute_is c.args.run.now _ c.word_run-length.result c.in-Some.found
+    c.as_bytes-bytes.ensures.value c.word_run-length.ensures.counted c.if-length-eq0.false c.word_run-length.ensures.few c.in-Some.ensures) c.utf8.run
 
 pub range-written-requires-clause-end_boundary : goal.range-written-requires-clause-end_boundary
-range-written-requires-clause-end_boundary c = to_edge c.args.run.now _ _ (attribute_is c.args.run.now _ c.word_run-length.result c.in-Some.found c.as_bytes-bytes.ensures.value c.word_run-length.ensures.counted c.if-length-eq0.false c.word_run-length.ensures.few c.in-Some.ensures) c.utf8.run
+range-written-requires-clause-end_boundary c = to_edge c.args.run.now _ _ (attribute_is c.args.run.now _ c.word_run-length.result c.in-Some.found
+    c.as_bytes-bytes.ensures.value c.word_run-length.ensures.counted c.if-length-eq0.false c.word_run-length.ensures.few c.in-Some.ensures) c.utf8.run
 
 pub range-requires-clause-end_boundary : goal.range-requires-clause-end_boundary
-range-requires-clause-end_boundary c = name_edge c.args.run.now _ _ (attribute_is c.args.run.now _ c.word_run-length.result c.in-Some.found c.as_bytes-bytes.ensures.value c.word_run-length.ensures.counted c.if-length-eq0.false c.word_run-length.ensures.few c.in-Some.ensures) c.utf8.run
+range-requires-clause-end_boundary c = name_edge c.args.run.now _ _ (attribute_is c.args.run.now _ c.word_run-length.result c.in-Some.found
+    c.as_bytes-bytes.ensures.value c.word_run-length.ensures.counted c.if-length-eq0.false c.word_run-length.ensures.few c.in-Some.ensures) c.utf8.run
 
 pub read_value-requires-clause-plain : goal.read_value-requires-clause-plain
 read_value-requires-clause-plain c =
-    let is = attribute_is c.args.run.now _ c.word_run-length.result c.in-Some.found c.as_bytes-bytes.ensures.value c.word_run-length.ensures.counted c.if-length-eq0.false c.word_run-length.ensures.few c.in-Some.ensures in
+    let is = attribute_is c.args.run.now _ c.word_run-length.result c.in-Some.found c.as_bytes-bytes.ensures.value c.word_run-length.ensures.counted
+    c.if-length-eq0.false c.word_run-length.ensures.few c.in-Some.ensures in
     λ e. ap (list_all is_no_reference) (c.range-written.ensures.value ∙ written_is c.args.run.now _ _ is c.utf8.run) ∙ is.value.plain e
 
 pub read_value-requires-clause-clean : goal.read_value-requires-clause-clean
 read_value-requires-clause-clean c =
-    let is = attribute_is c.args.run.now _ c.word_run-length.result c.in-Some.found c.as_bytes-bytes.ensures.value c.word_run-length.ensures.counted c.if-length-eq0.false c.word_run-length.ensures.few c.in-Some.ensures in
-    ap (λ (x : List ℕ). list_all is_clean (chars x)) (c.range-written.ensures.value ∙ written_is c.args.run.now _ _ is c.utf8.run) ∙ written_clean c.args.run.now _ _ is c.utf8.run c.requires.clean
+    let is = attribute_is c.args.run.now _ c.word_run-length.result c.in-Some.found c.as_bytes-bytes.ensures.value c.word_run-length.ensures.counted
+    c.if-length-eq0.false c.word_run-length.ensures.few c.in-Some.ensures in
+    ap (λ (x : List ℕ). list_all is_clean (chars x)) (c.range-written.ensures.value ∙ written_is c.args.run.now _ _ is c.utf8.run)
+    ∙ written_clean c.args.run.now _ _ is c.utf8.run c.requires.clean
 
 pub returns-then-not-branch : goal.returns-then-not-branch
 returns-then-not-branch c = record {
   cut = none_cut c.args.run.now c.utf8.run;
-  takes = λ body h. none_taken _ _ _ body _ _ c.args.at c.args.run.now (other_value _ _ _ _ body _ _ h c.requires.before refl (record { kind_is = refl; name_is = refl; attrs_are = refl; seen_is = refl; any_is = refl }));
+  takes = λ body h. none_taken c.args.at c.args.run.now (other_value h _ c.requires.before refl (keeps_tag refl refl refl refl refl));
   grows = grows_not _;
   kind = refl;
 }
 
 pub returns-in_default : goal.returns-in_default
-returns-in_default c = none_front _ _ _ _ _ _ c.utf8.run
+returns-in_default c = none_front c.utf8.run
 
 pub returns : goal.returns
-returns c =
-    let run = c.args.run.now in
-    let found = c.in-Some.found in
-    let is = attribute_is c.args.run.now _ c.word_run-length.result c.in-Some.found c.as_bytes-bytes.ensures.value c.word_run-length.ensures.counted c.if-length-eq0.false c.word_run-length.ensures.few c.in-Some.ensures in
+returns c = let run = c.args.run.now in let found = c.in-Some.found in
+    let is = attribute_is c.args.run.now _ c.word_run-length.result c.in-Some.found c.as_bytes-bytes.ensures.value c.word_run-length.ensures.counted
+    c.if-length-eq0.false c.word_run-length.ensures.few c.in-Some.ensures in
     let u = c.utf8.run in
     let table = c.args.table.now in
     let bytes = c.in_ok-attr.attr.value in
@@ -48,17 +54,18 @@ returns c =
     let text_is : written ≡ value run _ found is u = c.range-written.ensures.value ∙ written_is run _ found is u in
     let bytes_is : bytes ≡ (if found.plain then written else read) = ap (λ (a : Attr). a.value) c.in_ok-attr.ensures ∙ c.value-value.ensures in
     let quiet : IsQuietFront table (value run _ found is u) (length (value run _ found is u)) [] bytes =
-    subst (λ (x : List ℕ). IsQuietFront table x (length x) [] bytes) text_is (subst (IsQuietFront table written (length written) []) (sym bytes_is) (c.in_ok-read_value.ensures c.if-not-branch.false)) in
+    subst (λ (x : List ℕ). IsQuietFront table x (length x) [] bytes) text_is
+    (subst (IsQuietFront table written (length written) []) (sym bytes_is) (c.in_ok-read_value.ensures c.if-not-branch.false)) in
     let plain : found.plain ≡ true → bytes ≡ value run _ found is u = λ e. bytes_is ∙ ap (λ (b : Bool). if b then written else read) e ∙ text_is in
-    let ends = c.in_ok-keep.ensures.keeps c.args.names.now c.intern.new.self (attribute run _ found is u c.args.at table bytes quiet plain) c.in_ok-name.ensures.grows c.in_ok-name.ensures.names
-    (ap (slice_get c.intern.new.self) (ap (λ (a : Attr). a.name) c.in_ok-attr.ensures) ∙ c.in_ok-name.ensures.number ∙ ap (λ (x : List ℕ). Some x) (c.range.ensures.value ∙ front_of c.word_run-length.result run)) refl refl in
+    let ends = c.in_ok-keep.ensures.keeps c.args.names.now c.intern.new.self (attribute run _ found is u c.args.at table bytes quiet plain)
+    c.in_ok-name.ensures.grows c.in_ok-name.ensures.names (ap (slice_get c.intern.new.self) (ap (λ (a : Attr). a.name) c.in_ok-attr.ensures)
+    ∙ c.in_ok-name.ensures.number ∙ ap (λ (x : List ℕ). Some x) (c.range.ensures.value ∙ front_of c.word_run-length.result run)) refl refl in
     record {
       cut = end_cut run _ found is u;
-      takes = λ body h.
-          whole_taken run _ found is u c.args.at table bytes quiet plain c.args.names.now c.intern.new.self c.args.self.now _ c.keep.new.self body c.args.errors.now.items c.keep.new.errors.items h c.requires.before refl refl refl refl ends;
+      takes = λ body h. whole_taken run _ found is u c.args.at table bytes quiet plain h c.requires.before refl refl refl refl ends;
       grows = c.in_ok-name.ensures.grows;
       kind = c.in_ok-keep.ensures.kind;
     }
 
 pub returns-then-length-eq0 : goal.returns-then-length-eq0
-returns-then-length-eq0 c = none_front _ _ _ _ _ _ c.utf8.run
+returns-then-length-eq0 c = none_front c.utf8.run
