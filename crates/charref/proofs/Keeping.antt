@@ -1,8 +1,5 @@
 -- What of the text that a walk has taken may be read again.
-use Rattle.charref.proofs.Names.{arith, ◌≡◌, inl, inr, ℕ, ◌+◌, ◌-◌, ◌≤◌, Bool, true, false, cond, List, [], length, drop, refl, sym, ap, ◌∙◌, Placed, ReferenceState}
-use Rattle.charref.specs.Held.{is_number, held_characters}
-use Rattle.std.proofs.lemmas.Bool.{cases_Bool}
-use Rattle.std.proofs.lemmas.List.{drop_all}
+use Rattle.charref.proofs.Names.{arith, ◌≡◌, inl, inr, ℕ, ◌+◌, ◌-◌, ◌≤◌, Bool, true, false, cond, List, [], length, drop, refl, sym, ap, ◌∙◌, Placed, ReferenceState, is_number, held_characters, cases_Bool, drop_all}
 
 pub kept_none : (state : ReferenceState) (text : List Placed) → is_number state ≡ true → held_characters state text ≡ []
 kept_none state text number = ap (λ (b : Bool). cond b [] text) number

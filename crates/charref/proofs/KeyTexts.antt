@@ -1,7 +1,5 @@
 -- Keys and the texts of characters, read from the left.
-use Rattle.charref.proofs.Names.{arith, ◌≡◌, ℕ, ◌≤◌, List, [], ◌∷◌, ◌++◌, length, None, encode_utf8_all, refl, sym, append_assoc, Value, codepoints}
-use Rattle.std.specs.Char.{encode_utf8}
-use Rattle.serde_json.specs.View.{items_view}
+use Rattle.charref.proofs.Names.{arith, ◌≡◌, ℕ, ◌≤◌, List, [], ◌∷◌, ◌++◌, length, None, encode_utf8_all, refl, sym, append_assoc, Value, codepoints, encode_utf8, items_view}
 
 -- a list of more than two
 pub codepoints_none : (vs : List Value) → 3 ≤ length vs → None ≡ codepoints (items_view vs)

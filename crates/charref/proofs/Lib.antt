@@ -1,18 +1,12 @@
 pub mod Names
 pub mod Keys
-pub mod Ranges
 pub mod Searching
-pub mod Ends
-pub mod Indexing
 pub mod KeyTexts
 pub mod Members
 pub mod Core
 pub mod Naming
 pub mod Telling
-pub mod Digits
 pub mod Numbers
-pub mod Extending
-pub mod Taking
 pub mod Keeping
 pub mod Opening
 pub mod OneReference
@@ -20,7 +14,6 @@ pub mod SomeReference
 pub mod AtOnce
 pub mod WholeNumbers
 pub mod Fronts
-pub mod Orders
 pub mod Forms
 pub mod ReadingFlat
 pub mod Begins

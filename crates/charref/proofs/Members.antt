@@ -1,15 +1,6 @@
 -- The members of an object, one after another.
-use Rattle.std.proofs.lemmas.List.Folds.{list_all-append}
-use Rattle.charref.proofs.Names.{◌≡◌, inl, ℕ, Bool, true, true≢false, not, bytes_eq, List, [], ◌∷◌, ◌++◌, map, Some, encode_utf8_all, Result, Ok, Err, string_bytes, Less, refl, sym, ap, ◌∙◌, subst, append_assoc, and_parts, and_from, append-nil, map-append, bytes_eq-Decides, list_all, AllByRecursion, slice_cmp, nat_cmp, TableFault, view, members_view, Value, Entry, Entities, is_key, is_empty_list, codepoints, entry_of_json, entities_of, IsRefusedWith, Refusal, Memory, is_one_or_two, is_table_entry, IsReadable}
+use Rattle.charref.proofs.Names.{◌≡◌, inl, ℕ, Bool, true, true≢false, not, List, [], ◌∷◌, ◌++◌, map, Some, encode_utf8_all, Result, Ok, Err, string_bytes, Less, refl, sym, ap, ◌∙◌, subst, append_assoc, and_parts, and_from, append-nil, map-append, bytes_eq-Decides, list_all, AllByRecursion, slice_cmp, nat_cmp, TableFault, view, members_view, Value, Entry, Entities, is_key, is_empty_list, codepoints, entry_of_json, entities_of, IsRefusedWith, Refusal, Memory, is_one_or_two, is_table_entry, IsReadable, list_all-append, IsDistinct, String, Global, IsDistinct-from_sorted, is_eq-slice_cmp, keys_of, string_cmp, Data, Items, fields, and_entry}
 use Rattle.std.specs.List.Sorted.{IsStrictlySortedBy}
-use Rattle.std.specs.List.{IsDistinct}
-use Rattle.std.proofs.Common.{String, Global}
-use Rattle.std.proofs.lemmas.Map.Keys.{IsDistinct-from_sorted}
-use Rattle.std.proofs.lemmas.Map.Text.{is_eq-slice_cmp}
-use Rattle.std.specs.Map.{keys_of}
-use Rattle.std.specs.String.{string_cmp}
-use Rattle.serde_json.specs.Data.{Data, Items}
-use Rattle.charref.specs.Reading.{fields, and_entry}
 
 abbrev pub Pair : Type 0
 Pair = String Global × Value
@@ -41,21 +32,24 @@ pub record HasReadMembers (all rest : List Pair) (table : Entities) : Type 0 whe
   pub keys : map (λ e. e.key) table ≡ map string_bytes (keys_of done)
   pub passing : list_all is_table_entry table ≡ true
 
-pub read_member : (all left : List Pair) (pair : Pair) (table : Entities) (e : Entry) → HasReadMembers all (pair ∷ left) table → entry_of_json (string_bytes pair.0) (view pair.1) ≡ Ok e → e.key ≡ string_bytes pair.0 → is_table_entry e ≡ true
+pub read_member : (all left : List Pair) (pair : Pair) (table : Entities) (e : Entry) → HasReadMembers all (pair ∷ left) table
+    → entry_of_json (string_bytes pair.0) (view pair.1) ≡ Ok e → e.key ≡ string_bytes pair.0 → is_table_entry e ≡ true
     → HasReadMembers all left (table ++ e ∷ [])
 read_member all left pair table e was is key passes = record {
   done = was.done ++ pair ∷ [];
   are = was.are ∙ sym (append_assoc was.done (pair ∷ []) left);
   so_far = λ more. ap (λ (ms : List Pair). entities_of (members_view ms)) (append_assoc was.done (pair ∷ []) more) ∙ was.so_far (pair ∷ more)
-      ∙ ap (λ r. followed_by table (and_entry r (entities_of (members_view more)))) is ∙ sym (followed_by-append table (e ∷ []) (entities_of (members_view more)));
+      ∙ ap (λ r. followed_by table (and_entry r (entities_of (members_view more)))) is
+      ∙ sym (followed_by-append table (e ∷ []) (entities_of (members_view more)));
   keys = map-append (λ (e : Entry). e.key) table (e ∷ []) ∙ (λ i. was.keys i ++ key i ∷ [])
       ∙ sym (ap (map string_bytes) (map-append (λ (p : Pair). p.0) was.done (pair ∷ [])) ∙ map-append string_bytes (keys_of was.done) (pair.0 ∷ []));
   passing = list_all-append is_table_entry table (e ∷ []) ∙ and_from _ _ was.passing (and_from _ true passes refl);
 }
 
-pub read_fault : (all left : List Pair) (pair : Pair) (table : Entities) (cause : TableFault) → HasReadMembers all (pair ∷ left) table → entry_of_json (string_bytes pair.0) (view pair.1) ≡ Err cause → entities_of (members_view all) ≡ Err cause
-read_fault all left pair table cause was is =
-    ap (λ (ms : List Pair). entities_of (members_view ms)) was.are ∙ was.so_far (pair ∷ left) ∙ ap (λ r. followed_by table (and_entry r (entities_of (members_view left)))) is ∙ followed_by-Err table cause
+pub read_fault : (all left : List Pair) (pair : Pair) (table : Entities) (cause : TableFault) → HasReadMembers all (pair ∷ left) table
+    → entry_of_json (string_bytes pair.0) (view pair.1) ≡ Err cause → entities_of (members_view all) ≡ Err cause
+read_fault all left pair table cause was is = ap (λ (ms : List Pair). entities_of (members_view ms)) was.are ∙ was.so_far (pair ∷ left)
+    ∙ ap (λ r. followed_by table (and_entry r (entities_of (members_view left)))) is ∙ followed_by-Err table cause
 
 pub read_all : (all : List Pair) (table : Entities) → HasReadMembers all [] table → entities_of (members_view all) ≡ Ok table
 read_all all table was = ap (λ (ms : List Pair). entities_of (members_view ms)) was.are ∙ was.so_far [] ∙ followed_by-nothing table
@@ -65,24 +59,24 @@ pub memory_refuses : {A : Type 0} (r : Result A TableFault) (refusal : Refusal) 
 memory_refuses (Ok x) refusal is = is
 memory_refuses (Err cause) refusal is = inl is
 
-pub read_refused : (all left : List Pair) (pair : Pair) (table : Entities) (refusal : Refusal) → HasReadMembers all (pair ∷ left) table → IsRefusedWith (entry_of_json (string_bytes pair.0) (view pair.1)) refusal → IsRefusedWith (entities_of (members_view all)) refusal
-read_refused all left pair table refusal was refused = by (entry_of_json (string_bytes pair.0) (view pair.1)) refl refused
-  where
-    by : (r : Result Entry TableFault) → entry_of_json (string_bytes pair.0) (view pair.1) ≡ r → IsRefusedWith r refusal → IsRefusedWith (entities_of (members_view all)) refusal
-    by (Ok e) is memory = memory_refuses (entities_of (members_view all)) refusal memory
-    by (Err cause) is refused = subst (λ (r : Result Entities TableFault). IsRefusedWith r refusal) (sym (read_fault all left pair table cause was is)) refused
+pub read_refused : (all left : List Pair) (pair : Pair) (table : Entities) (refusal : Refusal) → HasReadMembers all (pair ∷ left) table
+    → IsRefusedWith (entry_of_json (string_bytes pair.0) (view pair.1)) refusal → IsRefusedWith (entities_of (members_view all)) refusal
+read_refused all left pair table refusal was refused = by (entry_of_json (string_bytes pair.0) (view pair.1)) refl refused where
+  by : (r : Result Entry TableFault) → entry_of_json (string_bytes pair.0) (view pair.1) ≡ r → IsRefusedWith r refusal
+      → IsRefusedWith (entities_of (members_view all)) refusal
+  by (Ok e) is memory = memory_refuses (entities_of (members_view all)) refusal memory
+  by (Err cause) is refused = subst (λ (r : Result Entities TableFault). IsRefusedWith r refusal) (sym (read_fault all left pair table cause was is)) refused
 
 -- WHAT A READ TABLE IS
 
 -- the entry that a key, a list and a text give
-pub entry_is : (key text : List ℕ) (value : Data) (items : Items) (cs : List ℕ) → is_key key ≡ true → fields value ≡ Some (items, text) → codepoints items ≡ Some cs → text ≡ encode_utf8_all cs
-    → entry_of_json key value ≡ Ok (record { key = key; stands_for = cs })
-entry_is key text value items cs key-is has numbers is =
-    let test : bytes_eq text (encode_utf8_all cs) ≡ true = (bytes_eq-Decides text (encode_utf8_all cs)).1 is in
-    rw (key-is, has, numbers, test) refl
+pub entry_is : (key text : List ℕ) (value : Data) (items : Items) (cs : List ℕ) → is_key key ≡ true → fields value ≡ Some (items, text)
+    → codepoints items ≡ Some cs → text ≡ encode_utf8_all cs → entry_of_json key value ≡ Ok (record { key = key; stands_for = cs })
+entry_is key text value items cs key-is has numbers is = rw (key-is, has, numbers, (bytes_eq-Decides text (encode_utf8_all cs)).1 is) refl
 
 -- the texts of names in order are in order
-texts_below : (k : String Global) (ks : List (String Global)) → AllByRecursion (λ y. string_cmp k y ≡ Less) ks → AllByRecursion (λ y. slice_cmp nat_cmp (string_bytes k) y ≡ Less) (map string_bytes ks)
+texts_below : (k : String Global) (ks : List (String Global)) → AllByRecursion (λ y. string_cmp k y ≡ Less) ks
+    → AllByRecursion (λ y. slice_cmp nat_cmp (string_bytes k) y ≡ Less) (map string_bytes ks)
 texts_below k [] h = tt
 texts_below k (x ∷ ks) h = (h.0, texts_below k ks h.1)
 
@@ -96,15 +90,18 @@ some_characters [] is = absurd (true≢false (sym is))
 some_characters (c ∷ cs) is = refl
 
 -- what passes both tests, each, passes another one
-all_both : {A : Type 0} (p q r : A → Bool) → ((x : A) → p x ≡ true → q x ≡ true → r x ≡ true) → (xs : List A) → list_all p xs ≡ true → list_all q xs ≡ true → list_all r xs ≡ true
+all_both : {A : Type 0} (p q r : A → Bool) → ((x : A) → p x ≡ true → q x ≡ true → r x ≡ true) → (xs : List A) → list_all p xs ≡ true → list_all q xs ≡ true
+    → list_all r xs ≡ true
 all_both p q r both [] h k = refl
-all_both p q r both (x ∷ xs) h k = and_from (r x) _ (both x (and_parts _ _ h).0 (and_parts _ _ k).0) (all_both p q r both xs (and_parts _ _ h).1 (and_parts _ _ k).1)
+all_both p q r both (x ∷ xs) h k =
+    and_from (r x) _ (both x (and_parts _ _ h).0 (and_parts _ _ k).0) (all_both p q r both xs (and_parts _ _ h).1 (and_parts _ _ k).1)
 
 pub are_entries : (table : Entities) → IsReadable table → list_all is_table_entry table ≡ true
-are_entries table readable =
-    all_both (λ (e : Entry). is_key e.key) (λ (e : Entry). is_one_or_two e.stands_for) is_table_entry (λ e key ones. and_from _ _ key ones) table readable.sorted.is_table.keys readable.characters
+are_entries table readable = all_both (λ (e : Entry). is_key e.key) (λ (e : Entry). is_one_or_two e.stands_for) is_table_entry
+    (λ e key ones. and_from _ _ key ones) table readable.sorted.is_table.keys readable.characters
 
-pub readable_from : (table : Entities) → list_all is_table_entry table ≡ true → IsStrictlySortedBy (slice_cmp nat_cmp) (map (λ e. e.key) table) → IsReadable table
+pub readable_from : (table : Entities) → list_all is_table_entry table ≡ true → IsStrictlySortedBy (slice_cmp nat_cmp) (map (λ e. e.key) table)
+    → IsReadable table
 readable_from table entries sorted = record {
   characters = each (λ e. is_one_or_two e.stands_for) (λ e is. (and_parts (is_key e.key) _ is).1);
   sorted = record {
@@ -112,15 +109,14 @@ readable_from table entries sorted = record {
     is_table = record {
       keys = each (λ e. is_key e.key) (λ e is. (and_parts (is_key e.key) _ is).0);
       characters = each (λ e. not (is_empty_list e.stands_for)) (λ e is. some_characters e.stands_for (and_parts (is_key e.key) _ is).1);
-      distinct = subst (λ (same : List ℕ → List ℕ → Bool). IsDistinct same (map (λ e. e.key) table)) (λ i k x. is_eq-slice_cmp k x i) (IsDistinct-from_sorted (slice_cmp nat_cmp) (map (λ e. e.key) table) sorted);
+      distinct = subst (λ (same : List ℕ → List ℕ → Bool). IsDistinct same (map (λ e. e.key) table)) (λ i k x. is_eq-slice_cmp k x i)
+          (IsDistinct-from_sorted (slice_cmp nat_cmp) (map (λ e. e.key) table) sorted);
     };
   };
-}
-  where
-    each : (test : Entry → Bool) → ((e : Entry) → is_table_entry e ≡ true → test e ≡ true) → list_all test table ≡ true
-    each test from = all_both is_table_entry is_table_entry test (λ e is also. from e is) table entries entries
+} where
+  each : (test : Entry → Bool) → ((e : Entry) → is_table_entry e ≡ true → test e ≡ true) → list_all test table ≡ true
+  each test from = all_both is_table_entry is_table_entry test (λ e is also. from e is) table entries entries
 
 pub readable_table : (all : List Pair) (table : Entities) → IsStrictlySortedBy string_cmp (keys_of all) → HasReadMembers all [] table → IsReadable table
-readable_table all table sorted read =
-    let whole : all ≡ read.done = read.are ∙ append-nil read.done in
-    readable_from table read.passing (subst (IsStrictlySortedBy (slice_cmp nat_cmp)) (ap (λ (ps : List Pair). map string_bytes (keys_of ps)) whole ∙ sym read.keys) (texts_sorted (keys_of all) sorted))
+readable_table all table sorted read = readable_from table read.passing (subst (IsStrictlySortedBy (slice_cmp nat_cmp))
+    (ap (λ (ps : List Pair). map string_bytes (keys_of ps)) (read.are ∙ append-nil read.done) ∙ sym read.keys) (texts_sorted (keys_of all) sorted))

@@ -1,6 +1,5 @@
 -- A name that has been read: its key, or none.
-use Rattle.charref.proofs.Names.{arith, ◌≡◌, ℕ, zero, suc, ◌-◌, ◌≤◌, ◌<◌, Bool, true, false, true≢false, ◌||◌, nat_eq, bytes_eq, bytes_eq-Decides, codes, List, [], ◌∷◌, ◌++◌, length, take, drop, slice_get, get_or, Some, refl, sym, ap, ◌∙◌, subst, take-append-drop, and_parts, and_from, nat_tests, starts_with, list_all, Placed, characters, begins, all, past, is_alphanumeric, Entry, Entities, IsTable, is_key, is_key_name, is_empty_list, ends_in_semicolon, ◌+◌, placed, is_empty}
-use Rattle.std.specs.Char.{len_utf8}
+use Rattle.charref.proofs.Names.{arith, ◌≡◌, ℕ, zero, suc, ◌-◌, ◌≤◌, ◌<◌, Bool, true, false, true≢false, ◌||◌, nat_eq, bytes_eq, bytes_eq-Decides, codes, List, [], ◌∷◌, ◌++◌, length, take, drop, slice_get, get_or, Some, refl, sym, ap, ◌∙◌, subst, take-append-drop, and_parts, and_from, nat_tests, starts_with, list_all, Placed, characters, begins, all, past, is_alphanumeric, Entry, Entities, IsTable, is_key, is_key_name, is_empty_list, ends_in_semicolon, ◌+◌, placed, is_empty, len_utf8}
 -- under the name by which the crates above cite it
 pub use Rattle.names.proofs.Words.{all-append}
 
@@ -12,38 +11,30 @@ pub data Follows (cs : List ℕ) : Type 0 where
 
 pub follows : (cs : List ℕ) → (is_empty_list cs || bytes_eq cs (codes ";") || is_key_name cs) ≡ true → Follows cs
 follows [] h = ends refl
-follows (c ∷ cs) h = by (bytes_eq (c ∷ cs) (codes ";")) refl h
-  where
-    by : (b : Bool) → bytes_eq (c ∷ cs) (codes ";") ≡ b → (b || is_key_name (c ∷ cs)) ≡ true → Follows (c ∷ cs)
-    by true is h = closes ((bytes_eq-Decides (c ∷ cs) (codes ";")).0 is)
-    by false is h = continues h
+follows (c ∷ cs) h = by (bytes_eq (c ∷ cs) (codes ";")) refl h where
+  by : (b : Bool) → bytes_eq (c ∷ cs) (codes ";") ≡ b → (b || is_key_name (c ∷ cs)) ≡ true → Follows (c ∷ cs)
+  by true is h = closes ((bytes_eq-Decides (c ∷ cs) (codes ";")).0 is)
+  by false is h = continues h
 
 -- each byte of a name passes what all letters and digits, and the `;`, do
-pub name_all : (test : ℕ → Bool) → ((c : ℕ) → is_alphanumeric c ≡ true → test c ≡ true) → test 59 ≡ true → (name : List ℕ) → is_key_name name ≡ true → list_all test name ≡ true
+pub name_all : (test : ℕ → Bool) → ((c : ℕ) → is_alphanumeric c ≡ true → test c ≡ true) → test 59 ≡ true → (name : List ℕ) → is_key_name name ≡ true
+    → list_all test name ≡ true
 name_all test letters last [] is = refl
-name_all test letters last (c ∷ cs) is =
-    let parts : (is_alphanumeric c ≡ true) × ((is_empty_list cs || bytes_eq cs (codes ";") || is_key_name cs) ≡ true) = and_parts _ _ is in
-    and_from (test c) _ (letters c parts.0) (elim (follows cs parts.1) [
-      | ends none ↦ subst (λ xs. list_all test xs ≡ true) (sym none) refl
-      | closes one ↦ subst (λ xs. list_all test xs ≡ true) (sym one) (and_from (test 59) true last refl)
-      | continues more ↦ name_all test letters last cs more
-    ])
+name_all test letters last (c ∷ cs) is = and_from (test c) _ (letters c (and_parts _ _ is).0) (elim (follows cs (and_parts _ _ is).1)
+    [ ends none ↦ rw none refl | closes one ↦ rw one (and_from (test 59) true last refl) | continues more ↦ name_all test letters last cs more ])
 
 -- the last byte of a key
 pub ends_at : (xs : List ℕ) → 0 < length xs → ends_in_semicolon xs ≡ nat_eq (get_or xs (length xs - 1) 0) 59
 ends_at [] h = absurd (omega arith)
 ends_at (x ∷ []) h = refl
-ends_at (x ∷ y ∷ xs) h =
-    let later : ends_in_semicolon (y ∷ xs) ≡ nat_eq (get_or (y ∷ xs) (length (y ∷ xs) - 1) 0) 59 = ends_at (y ∷ xs) (omega arith) in
-    let at : length (x ∷ y ∷ xs) - 1 ≡ suc (length (y ∷ xs) - 1) = omega arith in
+ends_at (x ∷ y ∷ xs) h = let later = ends_at (y ∷ xs) (omega arith) in let at : length (x ∷ y ∷ xs) - 1 ≡ suc (length (y ∷ xs) - 1) = omega arith in
     later ∙ ap (λ n. nat_eq (get_or (x ∷ y ∷ xs) n 0) 59) (sym at)
 
 -- a text that begins with a key is the key and the rest
 pub key_of : (bytes key : List ℕ) → starts_with nat_eq bytes key ≡ true → key ≡ take (length key) bytes
 key_of bytes [] p = refl
 key_of [] (c ∷ cs) p = absurd (true≢false (sym p))
-key_of (x ∷ xs) (c ∷ cs) p =
-    let first : c ≡ x = (let h : nat_eq c x ≡ true = (and_parts _ _ p).0 in grind (arith, nat_tests)) in
+key_of (x ∷ xs) (c ∷ cs) p = let first : c ≡ x = (let h : nat_eq c x ≡ true = (and_parts _ _ p).0 in grind (arith, nat_tests)) in
     let others : cs ≡ take (length cs) xs = key_of xs cs (and_parts _ _ p).1 in
     cc
 
@@ -93,8 +84,7 @@ pub record Opens (key : List ℕ) : Type 0 where
 pub key_opens : (key : List ℕ) → is_key key ≡ true → Opens key
 key_opens [] h = absurd (true≢false (sym h))
 key_opens (c ∷ []) h = absurd (true≢false (sym (and_parts _ _ h).1))
-key_opens (c ∷ d ∷ cs) h =
-    let amp : c ≡ 38 = (let t : nat_eq c 38 ≡ true = (and_parts _ _ h).0 in grind (arith, nat_tests)) in
+key_opens (c ∷ d ∷ cs) h = let amp : c ≡ 38 = (let t : nat_eq c 38 ≡ true = (and_parts _ _ h).0 in grind (arith, nat_tests)) in
     record { first = d; others = cs; is = ap (λ x. x ∷ d ∷ cs) amp; alphanumeric = (and_parts (is_alphanumeric d) _ (and_parts _ _ h).1).0 }
 
 pub key_size : (key : List ℕ) → is_key key ≡ true → 2 ≤ length key

@@ -42,10 +42,10 @@ pub record IsOpenKeyOf (table : Entities) (bytes : List ℕ) (key : OpenKey) : T
   pub is : IsOpenKey table key
   pub opens : starts_with nat_eq bytes (drop 1 is.read.entry.key) ≡ true
 
--- The table has an entry at this place, whose key ends in a `;`, and these bytes begin with all of the key after its `&`.
-pub record HasWhole (table : Entities) (bytes : List ℕ) (place : ℕ) : Type 0 where
+-- The table has an entry at this index, whose key ends in a `;`, and these bytes begin with all of the key after its `&`.
+pub record HasWhole (table : Entities) (bytes : List ℕ) (index : ℕ) : Type 0 where
   pub is_table : IsTable table
   pub entry : Entry
-  pub stands : slice_get table place ≡ Some entry
+  pub stands : slice_get table index ≡ Some entry
   pub closed : ends_in_semicolon entry.key ≡ true
   pub opens : starts_with nat_eq bytes (drop 1 entry.key) ≡ true

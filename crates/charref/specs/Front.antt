@@ -48,14 +48,14 @@ abbrev pub entity_to : ℕ → ℕ → Entity
 entity_to start end = record { start = start; end = end }
 
 -- where an entry ends whose key ends here: after the count come so many characters
-abbrev pub next_place : List ℕ → ℕ → ℕ
-next_place text end = end + 1 + 4 * get_or text end 0
+abbrev pub next_start : List ℕ → ℕ → ℕ
+next_start text end = end + 1 + 4 * get_or text end 0
 
--- An entry stands in the text, its key from this place up to that. The key has two bytes or more, and one or two characters are after it.
+-- An entry stands in the text, its key from this byte up to that. The key has two bytes or more, and one or two characters are after it.
 pub record IsEntryTo (text : List ℕ) (start end : ℕ) : Type 0 where
   pub passing : is_table_entry (entry text (entity_to start end)) ≡ true
   pub is_entity : IsEntity text (entity_to start end)
   pub some : start + 2 ≤ end
-  pub more : end + 5 ≤ next_place text end
-  pub within : next_place text end ≤ length text
-  pub is : drop start text ≡ flat_entry (entry text (entity_to start end)) ++ drop (next_place text end) text
+  pub more : end + 5 ≤ next_start text end
+  pub within : next_start text end ≤ length text
+  pub is : drop start text ≡ flat_entry (entry text (entity_to start end)) ++ drop (next_start text end) text

@@ -17,7 +17,7 @@ abbrev pub characters_of : Characters → List ℕ
 characters_of (One only) = only ∷ []
 characters_of (Two first second) = first ∷ second ∷ []
 
--- the errors of a reference at this place, where `after` follows all characters taken
+-- the errors of a reference at this byte, where `after` follows all characters taken
 abbrev pub errors_of : Reference → ℕ → List Placed → List ParseError
 errors_of found at after =
     error_if found.missing_semicolon MissingSemicolonAfterCharacterReference at

@@ -54,10 +54,10 @@ pub record IsRange (table : Entities) (bytes : List ℕ) (low high : ℕ) : Type
   pub within : high ≤ length table
   pub exact : (k : ℕ) (e : Entry) → slice_get table k ≡ Some e → starts_with nat_eq e.key bytes ≡ (nat_le low k && nat_lt k high)
 
--- For each place from `first` on: the entries whose keys begin with the key there are from it up to its end.
+-- For each index from `first` on: the entries whose keys begin with the key there are from it up to its end.
 pub record AreEnds (table : Entities) (first : ℕ) (ends : List ℕ) : Type 0 where
   pub size : length ends ≡ length table
-  pub at : (place : ℕ) (e : Entry) → first ≤ place → slice_get table place ≡ Some e → IsRange table e.key place (get_or ends place 0)
+  pub at : (index : ℕ) (e : Entry) → first ≤ index → slice_get table index ≡ Some e → IsRange table e.key index (get_or ends index 0)
 
 -- From `low` up to `high` the byte at this depth never decreases.
 pub record IsRising (table : Entities) (low high depth : ℕ) : Type 0 where
@@ -69,15 +69,15 @@ pub record IsParted (table : Entities) (low middle high depth code : ℕ) : Type
   pub below : (k : ℕ) (e : Entry) → slice_get table k ≡ Some e → low ≤ k → k < middle → code_at e.key depth < code
   pub above : (k : ℕ) (e : Entry) → slice_get table k ≡ Some e → middle ≤ k → k < high → code ≤ code_at e.key depth
 
--- the first place of a key whose byte after the `&` has at least this code
-pub record IsStart (table : Entities) (place code : ℕ) : Type 0 where
-  pub within : place ≤ length table
-  pub parted : IsParted table 0 place (length table) 1 code
+-- the first index of a key whose byte after the `&` has at least this code
+pub record IsStart (table : Entities) (index code : ℕ) : Type 0 where
+  pub within : index ≤ length table
+  pub parted : IsParted table 0 index (length table) 1 code
 
 -- an index of a table: the starts of this many codes, from 0 on
 pub record IsIndex (table : Entities) (starts : List ℕ) (count : ℕ) : Type 0 where
   pub size : length starts ≡ count
-  pub at : (code place : ℕ) → slice_get starts code ≡ Some place → IsStart table place code
+  pub at : (code index : ℕ) → slice_get starts code ≡ Some index → IsStart table index code
 
 -- the entry that was found
 abbrev pub best_entry : Entities → Option ℕ → Option Entry
@@ -96,9 +96,9 @@ pub record IsOver (table : Entities) (bytes : List ℕ) : Type 0 where
   pub no_more : (k : ℕ) (e : Entry) → slice_get table k ≡ Some e → starts_with nat_eq e.key bytes ≡ true → length e.key ≤ length bytes
 
 pub record EntryGoesOn (table : Entities) (bytes : List ℕ) : Type 0 where
-  pub place : ℕ
+  pub index : ℕ
   pub entry : Entry
-  pub stands : slice_get table place ≡ Some entry
+  pub stands : slice_get table index ≡ Some entry
   pub opens : starts_with nat_eq entry.key bytes ≡ true
   pub is_longer : length bytes < length entry.key
 
@@ -132,9 +132,9 @@ pub record HasNone (table : Entities) (bytes : List ℕ) : Type 0 where
   pub none : (k : ℕ) (e : Entry) → slice_get table k ≡ Some e → starts_with nat_eq e.key bytes ≡ true → ⊥
 
 -- a search stays within a table of this many entries
-abbrev pub is_place : Option ℕ → ℕ → Bool
-is_place None count = true
-is_place (Some k) count = nat_lt k count
+abbrev pub is_index : Option ℕ → ℕ → Bool
+is_index None count = true
+is_index (Some k) count = nat_lt k count
 
 abbrev pub is_search_within : Search → ℕ → Bool
-is_search_within search count = nat_le search.low search.high && nat_le search.high count && is_place search.best count
+is_search_within search count = nat_le search.low search.high && nat_le search.high count && is_index search.best count

@@ -37,8 +37,8 @@ impl<'t> Walk<'t> {
         {
             let (low, high) = starting(starts, *first);
             if low < high {
-                if let Some(place) = whole_place(table, low, high, bytes) {
-                    return Some(whole_key(table, place));
+                if let Some(index) = whole_index(table, low, high, bytes) {
+                    return Some(whole_key(table, index));
                 }
             } else if is_alphanumeric(*first) {
                 return Some((unknown(1, Last::Alphanumeric), 1));
@@ -52,15 +52,15 @@ impl<'t> Walk<'t> {
     }
 }
 
-/// The place of a key that ends in a `;` and with all of which, after its `&`, these bytes begin, if one is found at once: the
+/// The index of a key that ends in a `;` and with all of which, after its `&`, these bytes begin, if one is found at once: the
 /// only one of this range, or by its hash. No longer key begins with it, so nothing that comes after it matters.
 #[inline(never)]
-fn whole_place(table: &Table, low: usize, high: usize, bytes: &[u8]) -> Option<usize>
+fn whole_index(table: &Table, low: usize, high: usize, bytes: &[u8]) -> Option<usize>
     requires { (low < high) × (high ≤ length table.now) }
     ensures { IfSome result (HasWhole table.now bytes.now) }
 {
     if high - low != 1 {
-        return table.slots.place_of(&table.flat, bytes);
+        return table.slots.index_of(&table.flat, bytes);
     }
     if is_whole(&table.flat, low, bytes) {
         Some(low)
@@ -100,7 +100,7 @@ fn settled_by_key(table: &Table, bytes: &[u8]) -> Option<(Reference, usize)>
     ))
 }
 
-/// The reference that the key at this place is, which ends in a `;`, and how many bytes of it come after the `&`.
+/// The reference that the key at this index is, which ends in a `;`, and how many bytes of it come after the `&`.
 #[inline(always)]
 fn whole_key(table: &Table, index: usize) -> (Reference, usize)
     requires { index < length table.now }

@@ -76,6 +76,7 @@ fn character_at_front(bytes: &[u8]) -> Option<char>
 
 /// The characters at the front, after their count.
 #[inline(always)]
+#[tactic(auto, using(crate::proofs::ReadingFlat::no_second))]
 pub(crate) fn characters_at_front(bytes: &[u8]) -> Option<Characters>
     ensures { MatchOption result (BeginsWithNone is_one_or_two flat_characters bytes.now)
         (λ it. (is_one_or_two (characters_of it) ≡ true) × BeginsWith (flat_characters (characters_of it)) bytes.now (1 + 4 * length (characters_of it))) }
@@ -109,7 +110,7 @@ fn key_end(text: &[u8], start: usize) -> Option<usize>
 /// No entry has fewer bytes than this.
 const ENTRY: usize = 7;
 
-/// The entries of a flat form. (For one of 4 GB or more memory is said to be out, since places are numbers of four bytes.)
+/// The entries of a flat form. (For one of 4 GB or more memory is said to be out, since its offsets are numbers of four bytes.)
 #[inline(never)]
 pub(crate) fn entities_of(alloc: Global, text: &[u8]) -> Result<Vec<Entity>, Refusal>
     ensures ok { IfOk result (λ entities. IsReadable (entries text.now entities.items) × (flat_of (entries text.now entities.items) ≡ text.now)

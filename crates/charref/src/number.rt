@@ -28,6 +28,7 @@ const DIGITS: [u8; 128] = [
 
 /// Whether this is an ASCII letter or digit.
 #[inline(always)]
+#[tactic(auto, using(crate::proofs::Numbers::letter_or_digit, crate::proofs::Numbers::below_128))]
 pub(crate) fn is_alphanumeric(byte: u8) -> bool
     ensures { result ≡ is_alphanumeric byte }
 {

@@ -38,7 +38,7 @@ fn pair_number(first: u8, second: u8) -> usize {
     usize::from(first % 64) * 64 + usize::from(second % 64)
 }
 
-/// Where the keys that begin with the key at this place end, by where those that begin with each later key do: with one that ends in a `;`
+/// Where the keys that begin with the key at this index end, by where those that begin with each later key do: with one that ends in a `;`
 /// no other does. Over a table this compares no more bytes than all its keys have, twice: each key is found to begin with one other, the
 /// longest that it begins with.
 fn end_of(flat: &Flat, index: usize, ends: &[usize]) -> usize
@@ -58,7 +58,7 @@ fn end_of(flat: &Flat, index: usize, ends: &[usize]) -> usize
     end
 }
 
-/// The key at this place as an open key: a longer key begins with it. Keys that begin with a longer one go on with its code.
+/// The key at this index as an open key: a longer key begins with it. Keys that begin with a longer one go on with its code.
 fn open_key(flat: &Flat, index: usize, ends: &[usize]) -> OpenKey
     requires sorted { IsSortedTable flat.now }
     requires within { index < length flat.now }
@@ -101,10 +101,10 @@ impl OpenKeys {
             first -= 1;
             ends[first] = end_of(flat, first, &ends);
         }
-        for place in 0..flat.len() {
-            if ends[place] > place + 1 {
-                keys.read.push(open_key(flat, place, &ends))?;
-                keys.count(flat.key(place))?;
+        for index in 0..flat.len() {
+            if ends[index] > index + 1 {
+                keys.read.push(open_key(flat, index, &ends))?;
+                keys.count(flat.key(index))?;
             }
         }
         Ok(keys)

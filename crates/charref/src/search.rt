@@ -30,7 +30,7 @@ pub(crate) fn code_at(key: &[u8], depth: usize) -> u16
 }
 
 /// Of the entries from `low` up to `high`, the first whose key has at least this code at `depth`, or `high`.
-#[tactic(auto, using(crate::proofs::Ranges::parted_up, crate::proofs::Ranges::parted_down))]
+#[tactic(auto, using(crate::proofs::Searching::parted_up, crate::proofs::Searching::parted_down))]
 pub(crate) fn first_from(flat: &Flat, low: usize, high: usize, depth: usize, code: u16) -> usize
     requires ordered { low ≤ high }
     requires within { high ≤ length flat.now }
@@ -61,6 +61,7 @@ fn is_in_names(ch: char) -> bool
 
 impl Search {
     /// A look-up that has read an `&`: every key begins with it, and no key is it alone.
+    #[tactic(auto, using(crate::proofs::Searching::read_ampersand))]
     pub(crate) fn after_ampersand(table: &Table) -> Search
         ensures table { IsTable table.now }
         ensures read { SearchHasRead result table.now (38 ∷ []) }
@@ -146,7 +147,8 @@ impl Search {
     }
 }
 
-/// The place of the longest key that a text begins with.
+/// The index of the longest key that a text begins with.
+#[tactic(auto, using(crate::proofs::Searching::none_elsewhere))]
 pub(crate) fn search_for(table: &Table, text: &[u8]) -> Option<usize>
     ensures table { IsTable table.now }
     ensures within { IfSome result (λ k. k < length table.now) }

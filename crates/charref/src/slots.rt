@@ -19,11 +19,11 @@ const SLOTS_TRIED: u32 = 8;
 /// The `;` of a name is looked for among so many bytes: the longest name of HTML's table has one letter less.
 const LONGEST: usize = 32;
 
-/// For each name of two letters or more before a `;`, at one of the slots from its hash on, one more than the place of its key;
+/// For each name of two letters or more before a `;`, at one of the slots from its hash on, one more than the index of its key;
 /// 0 in a slot that is free. What is found here is compared with the key, and what is not found is looked up byte by byte.
 #[derive(Drop)]
 pub(crate) struct Slots {
-    places: Vec<u16>,
+    kept: Vec<u16>,
 }
 
 /// How many slots a table of so many entries has.
@@ -50,7 +50,7 @@ fn hash_of(name: &[u8]) -> u32
 
 /// Where a `;` is that may end the name at the front of these bytes. What is found by it is compared with the key.
 #[inline(always)]
-fn semicolon_place(bytes: &[u8]) -> Option<usize> {
+fn semicolon_index(bytes: &[u8]) -> Option<usize> {
     if bytes.len() < LONGEST {
         return bytes.iter().position(|byte| *byte == b';');
     }
@@ -63,7 +63,7 @@ fn semicolon_place(bytes: &[u8]) -> Option<usize> {
     Some(found.trailing_zeros() as usize)
 }
 
-/// Whether the key at this place ends in a `;`, and these bytes begin with all of it after its `&`.
+/// Whether the key at this index ends in a `;`, and these bytes begin with all of it after its `&`.
 #[inline(always)]
 pub(crate) fn is_whole(flat: &Flat, index: usize, bytes: &[u8]) -> bool
     requires table { IsTable flat.now }
@@ -77,17 +77,17 @@ impl Slots {
     /// The slots of a table, or none, in which nothing is found.
     pub(crate) fn new(alloc: Global, flat: &Flat, indexed: bool) -> Result<Slots, AllocError> {
         let mut slots = Slots {
-            places: Vec::new(alloc),
+            kept: Vec::new(alloc),
         };
         if !indexed {
             return Ok(slots);
         }
-        slots.places.resize(slots_for(flat.len()), 0)?;
-        for place in 0..flat.len() {
-            let Ok(kept) = u16::try_from(place + 1) else {
+        slots.kept.resize(slots_for(flat.len()), 0)?;
+        for index in 0..flat.len() {
+            let Ok(kept) = u16::try_from(index + 1) else {
                 return Ok(slots);
             };
-            let key = flat.key(place);
+            let key = flat.key(index);
             if key.len() > 3 && ends_in_semicolon(key) {
                 slots.put(hash_of(&key[1..key.len() - 1]), kept);
             }
@@ -98,39 +98,39 @@ impl Slots {
     /// The slot for a hash, after so many others.
     #[inline(always)]
     fn slot(&self, hash: u32, tried: u32) -> usize {
-        hash.wrapping_add(tried) as usize & self.places.len().wrapping_sub(1)
+        hash.wrapping_add(tried) as usize & self.kept.len().wrapping_sub(1)
     }
 
-    /// Puts a place into the first free slot for this hash, if one is near.
-    fn put(&mut self, hash: u32, index: u16) {
+    /// Puts one more than an index into the first free slot for this hash, if one is near.
+    fn put(&mut self, hash: u32, kept: u16) {
         for tried in 0..SLOTS_TRIED {
             let slot = self.slot(hash, tried);
-            if slot < self.places.len() && self.places[slot] == 0 {
-                self.places[slot] = index;
+            if slot < self.kept.len() && self.kept[slot] == 0 {
+                self.kept[slot] = kept;
                 return;
             }
         }
     }
 
-    /// The place of a key that ends in a `;` and with all of which, after its `&`, these bytes begin, if a slot has it.
+    /// The index of a key that ends in a `;` and with all of which, after its `&`, these bytes begin, if a slot has it.
     #[inline(always)]
-    pub(crate) fn place_of(&self, flat: &Flat, bytes: &[u8]) -> Option<usize>
+    pub(crate) fn index_of(&self, flat: &Flat, bytes: &[u8]) -> Option<usize>
         requires { IsTable flat.now }
         ensures { IfSome result (HasWhole flat.now bytes.now) }
     {
-        let count = semicolon_place(bytes)?;
+        let count = semicolon_index(bytes)?;
         if count < 2 || count >= bytes.len() {
             return None;
         }
         let hash = hash_of(&bytes[..count]);
         for tried in 0..SLOTS_TRIED {
-            let kept = *self.places.get(self.slot(hash, tried))?;
+            let kept = *self.kept.get(self.slot(hash, tried))?;
             if kept == 0 {
                 return None;
             }
-            let place = usize::from(kept) - 1;
-            if place < flat.len() && is_whole(flat, place, bytes) {
-                return Some(place);
+            let index = usize::from(kept) - 1;
+            if index < flat.len() && is_whole(flat, index, bytes) {
+                return Some(index);
             }
         }
         None

@@ -10,13 +10,13 @@ use std::alloc::{AllocError, Global};
 /// The codes that are indexed: of the end of a key, of each ASCII byte, and the one after them, which ends the last range.
 const CODES: u16 = 130;
 
-/// The code after the `&` of the key at this place; past all keys one that is above all others.
+/// The code after the `&` of the key at this index; past all keys one that is above all others.
 #[inline(always)]
-fn code_from(flat: &Flat, place: usize) -> u16
-    ensures { (e : Entry) → slice_get flat.now place ≡ Some e → result ≡ code_at e.key 1 }
+fn code_from(flat: &Flat, index: usize) -> u16
+    ensures { (e : Entry) → slice_get flat.now index ≡ Some e → result ≡ code_at e.key 1 }
 {
-    if place < flat.len() {
-        code_at(flat.key(place), 1)
+    if index < flat.len() {
+        code_at(flat.key(index), 1)
     } else {
         CODES
     }
@@ -28,14 +28,14 @@ pub(crate) fn starts_of(alloc: Global, flat: &Flat) -> Result<Vec<usize>, AllocE
     ensures { IfOk result (λ starts. IsIndex flat.now starts.items CODES) }
 {
     let mut starts = Vec::with_capacity(alloc, usize::from(CODES))?;
-    let mut place = 0;
-    let mut here = code_from(flat, place);
+    let mut index = 0;
+    let mut here = code_from(flat, index);
     for code in 0..CODES {
         if here < code {
-            place = first_from(flat, place, flat.len(), 1, code);
-            here = code_from(flat, place);
+            index = first_from(flat, index, flat.len(), 1, code);
+            here = code_from(flat, index);
         }
-        starts.push_reserved(place);
+        starts.push_reserved(index);
     }
     Ok(starts)
 }

@@ -220,6 +220,7 @@ fn after_sign(base: Base, ch: char) -> Next
 /// After the digits of a number: the hexadecimal and decimal character reference states (`#hexadecimal-character-reference-state`,
 /// `#decimal-character-reference-state`).
 #[inline(always)]
+#[tactic(auto, using(crate::proofs::Numbers::next_digit))]
 fn after_digits(base: Base, value: u32, ch: char) -> Next
     requires { value ≤ TOO_GREAT }
     ensures within { (count : ℕ) → is_next_within result count ≡ true }

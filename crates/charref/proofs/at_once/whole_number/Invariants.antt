@@ -1,6 +1,5 @@
-use Rattle.charref.proofs.Names.{◌-◌, length}
+use Rattle.charref.proofs.Names.{◌-◌, length, HasSign}
 use Rattle.charref.proofs.WholeNumbers.{HasDigits}
-use Rattle.charref.specs.AtOnce.{HasSign}
 use Rattle.charref.proofs.at_once.whole_number.Given as goal
 
 abbrev pub invariant-loop-count : goal.invariant-loop-count

@@ -1,5 +1,4 @@
-use Rattle.charref.proofs.Names.{◌≡◌, ◌+◌, ◌≤◌, ◌-◌, length, entity_to, key_at}
-use Rattle.std.proofs.Common.{◌/◌, vec_capacity}
+use Rattle.charref.proofs.Names.{◌≡◌, ◌+◌, ◌≤◌, ◌-◌, length, entity_to, key_at, ◌/◌, vec_capacity}
 use Rattle.charref.proofs.ReadingFlat.{HasReadTo}
 use Rattle.charref.proofs.entries.entities_of.Given as goal
 

@@ -1,14 +1,7 @@
-use Rattle.charref.proofs.Names.{arith, ◌≡◌, ◌+◌, ◌-◌, true, nat_eq, refl, ap, ◌∙◌, agree_below_at}
-use Rattle.std.specs.List.{slice_index_or}
-use Rattle.std.proofs.lemmas.Bool.{eqb-true}
-use Rattle.charref.specs.Reference.{numbered}
-use Rattle.charref.specs.declared.number.TheConstants.{C1_CONTROLS}
+use Rattle.charref.proofs.Names.{arith, ◌≡◌, ◌+◌, ◌-◌, true, nat_eq, refl, ap, ◌∙◌, agree_below_at, slice_index_or, eqb-true, numbered, C1_CONTROLS}
 use Rattle.charref.proofs.number.numbered.Goals as goal
 
 pub returns-in-128-to-159 : goal.returns-in-128-to-159
-returns-in-128-to-159 c =
-    let value = c.args.value in
-    let same : nat_eq (slice_index_or C1_CONTROLS (value - 128) 0) (numbered (value - 128 + 128)) ≡ true =
-    agree_below_at (λ k. nat_eq (slice_index_or C1_CONTROLS k 0) (numbered (k + 128))) (λ k. true) 32 (value - 128) refl (omega arith) in
-    let back : value - 128 + 128 ≡ value = omega arith in
-    eqb-true _ _ same ∙ ap numbered back
+returns-in-128-to-159 c = let value = c.args.value in let back : value - 128 + 128 ≡ value = omega arith in
+    eqb-true _ _ (agree_below_at (λ k. nat_eq (slice_index_or C1_CONTROLS k 0) (numbered (k + 128))) (λ k. true) 32 (value - 128) refl (omega arith))
+    ∙ ap numbered back

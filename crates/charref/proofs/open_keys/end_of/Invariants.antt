@@ -1,5 +1,5 @@
 use Rattle.charref.proofs.Names.{◌≡◌, ◌-◌, ◌≤◌, ◌<◌, length, slice_get, Some, Entry}
-use Rattle.charref.proofs.Ends.{AllBegin}
+use Rattle.charref.proofs.Searching.{AllBegin}
 use Rattle.charref.proofs.open_keys.end_of.Given as goal
 
 abbrev pub invariant-loop-end : goal.invariant-loop-end

@@ -1,5 +1,5 @@
 use Rattle.charref.proofs.Names.{◌-◌, ◌≤◌, IsRising}
-use Rattle.charref.proofs.Ranges.{IsPartedTo}
+use Rattle.charref.proofs.Searching.{IsPartedTo}
 use Rattle.charref.proofs.search.first_from.Given as goal
 
 abbrev pub invariant-loop-from : goal.invariant-loop-from

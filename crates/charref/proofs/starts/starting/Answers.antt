@@ -1,4 +1,4 @@
-use Rattle.charref.proofs.Indexing.{range_of}
+use Rattle.charref.proofs.Searching.{range_of}
 use Rattle.charref.proofs.starts.starting.Goals as goal
 
 pub returns : goal.returns

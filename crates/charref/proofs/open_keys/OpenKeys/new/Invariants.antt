@@ -7,5 +7,5 @@ invariant-loop-first l = (l.first ≤ length l.flat) × AreEnds l.flat l.first l
 abbrev pub decreases-loop-first : goal.decreases-loop-first
 decreases-loop-first l = l.first
 
-abbrev pub invariant-loop-place : goal.invariant-loop-place
-invariant-loop-place l = All (IsOpenKey l.flat) l.keys.read.items
+abbrev pub invariant-loop-index : goal.invariant-loop-index
+invariant-loop-index l = All (IsOpenKey l.flat) l.keys.read.items

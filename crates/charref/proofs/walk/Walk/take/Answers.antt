@@ -1,6 +1,6 @@
 use Rattle.charref.proofs.Names.{[], ◌∷◌, ◌++◌, characters, Name, IsHeldReference}
-use Rattle.charref.proofs.Taking.{held_name, own, by_own}
-use Rattle.charref.proofs.Extending.{held_longer}
+use Rattle.charref.proofs.Numbers.{held_name, own, by_own}
+use Rattle.charref.proofs.Telling.{held_longer}
 use Rattle.charref.proofs.walk.Walk.take.Goals as goal
 
 pub returns-clause-taken : goal.returns-clause-taken
@@ -11,5 +11,6 @@ returns-clause-taken c = λ table in_value text p taken is.
       table_is = taken.table_is;
       in_value_is = taken.in_value_is;
       held = by_own walk table in_value text taken (λ t b. IsHeldReference t b (Name c.in-Some.next) (text ++ p ∷ []))
-          (held_longer walk.table.now walk.in_value c.in-Some.next text p c.args.ch c.goes_on.ensures.table is (c.in-Some.ensures.read (characters text) parts.0) (λ bytes now. c.goes_on.ensures.open bytes now c.if-goes_on.true));
+          (held_longer walk.table.now walk.in_value c.in-Some.next text p c.args.ch c.goes_on.ensures.table is
+          (c.in-Some.ensures.read (characters text) parts.0) (λ bytes now. c.goes_on.ensures.open bytes now c.if-goes_on.true));
     }
