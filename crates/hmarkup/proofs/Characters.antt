@@ -1,14 +1,9 @@
 -- Classes of characters that exclude each other, and the errors of characters that are not NUL.
-use Rattle.std.proofs.lemmas.Bool.{cases_eq}
-use Rattle.std.proofs.Common.{inl, inr}
-use Rattle.hmarkup.proofs.Names.{◌≡◌, ℕ, true, false, eqb, [], ◌∷◌, sym, refl, subst, arith, eqb-true, nat_tests, Placed, is_space, is_greater, is_quote, null_errors}
+use Rattle.hmarkup.proofs.Names.{◌≡◌, ℕ, true, false, eqb, [], ◌∷◌, sym, refl, subst, arith, eqb-true, nat_tests, Placed, is_space, is_greater, is_quote, null_errors, cases_eq, inl, inr}
 
 -- what holds of both quotes
 pub quote_is : (c : ℕ) → is_quote c ≡ true → (P : ℕ → Type 0) → P 34 → P 39 → P c
-quote_is c h P x y = elim (cases_eq c 34) [
-  | inl is ↦ rw is x
-  | inr other ↦ let is : c ≡ 39 = grind (arith, nat_tests) in rw is y
-]
+quote_is c h P x y = elim (cases_eq c 34) [ inl is ↦ rw is x | inr other ↦ let is : c ≡ 39 = grind (arith, nat_tests) in rw is y ]
 
 pub quote_not_space : (c : ℕ) → is_quote c ≡ true → is_space c ≡ false
 quote_not_space c h = quote_is c h (λ n. is_space n ≡ false) refl refl

@@ -1,7 +1,6 @@
 -- Worked rows: what follows `<!DOCTYPE` in the text shown above each.
-use Rattle.hmarkup.proofs.Names.{ℕ, Bool, List, Option, ParseError, encode, placed, error, EofInDoctype, InvalidCharacterSequenceAfterDoctypeName, MissingDoctypeName, MissingWhitespaceBeforeDoctypeName, MissingWhitespaceBetweenDoctypePublicAndSystemIdentifiers, UnexpectedCharacterAfterDoctypeSystemIdentifier, UnexpectedNullCharacter, Placed, Found, IsDoctype}
+use Rattle.hmarkup.proofs.Names.{ℕ, Bool, List, Option, ParseError, encode, placed, error, EofInDoctype, InvalidCharacterSequenceAfterDoctypeName, MissingDoctypeName, MissingWhitespaceBeforeDoctypeName, MissingWhitespaceBetweenDoctypePublicAndSystemIdentifiers, UnexpectedCharacterAfterDoctypeSystemIdentifier, UnexpectedNullCharacter, Placed, Found, IsDoctype, AbruptDoctypePublicIdentifier, AbruptDoctypeSystemIdentifier, MissingDoctypePublicIdentifier, MissingDoctypeSystemIdentifier, MissingQuoteBeforeDoctypePublicIdentifier, MissingQuoteBeforeDoctypeSystemIdentifier, MissingWhitespaceAfterDoctypePublicKeyword, MissingWhitespaceAfterDoctypeSystemKeyword}
 use Rattle.std.specs.Prelude.{true, false, [], ◌∷◌, ◌++◌, codes, Some, None}
-use Rattle.names.specs.declared.error.ErrorCode.TheVariants.{AbruptDoctypePublicIdentifier, AbruptDoctypeSystemIdentifier, MissingDoctypePublicIdentifier, MissingDoctypeSystemIdentifier, MissingQuoteBeforeDoctypePublicIdentifier, MissingQuoteBeforeDoctypeSystemIdentifier, MissingWhitespaceAfterDoctypePublicKeyword, MissingWhitespaceAfterDoctypeSystemKeyword}
 use Rattle.hmarkup.proofs.SomeSpan.{some_doctype}
 
 -- the end of the input, what follows the doctype, its text, what is found (the name, both identifiers, whether quirks mode is forced), and the errors
@@ -13,8 +12,8 @@ record Row : Type 0 where
   errors : List ParseError
 
 abbrev row : ℕ → List ℕ → Option (List ℕ) → Option (List ℕ) → Option (List ℕ) → Bool → List ParseError → Row
-row end text name public system forced errors =
-    record { end = end; rest = []; span = placed 9 text; found = record { name = name; public = public; system = system; forced = forced }; errors = errors }
+row end text name public system forced errors = record
+    { end = end; rest = []; span = placed 9 text; found = record { name = name; public = public; system = system; forced = forced }; errors = errors }
 
 abbrev AreRows : List Row → Type 0
 AreRows [] = Unit {0}
@@ -38,7 +37,8 @@ table =
     -- `<!DOCTYPE HtMl >`
     ∷ row 16 (codes " HtMl >") (Some (codes "html")) None None false []
     -- `<!DOCTYPE html SYSTEM"a>`
-    ∷ row 24 (codes " html SYSTEM" ++ (34 ∷ codes "a>")) (Some (codes "html")) None (Some (codes "a")) true (error MissingWhitespaceAfterDoctypeSystemKeyword 21 ∷ error AbruptDoctypeSystemIdentifier 23 ∷ [])
+    ∷ row 24 (codes " html SYSTEM" ++ (34 ∷ codes "a>")) (Some (codes "html")) None (Some (codes "a")) true
+    (error MissingWhitespaceAfterDoctypeSystemKeyword 21 ∷ error AbruptDoctypeSystemIdentifier 23 ∷ [])
     -- `<!DOCTYPE html PUBLIC "-//X//">`
     ∷ row 31 (codes " html PUBLIC " ++ (34 ∷ (codes "-//X//" ++ (34 ∷ codes ">")))) (Some (codes "html")) (Some (codes "-//X//")) None false []
     -- `<!DOCTYPE a public 'b' 'c'>`: no error
@@ -60,7 +60,8 @@ table =
     -- `<!DOCTYPE a system '>`
     ∷ row 21 (codes " a system '>") (Some (codes "a")) None (Some []) true (error AbruptDoctypeSystemIdentifier 20 ∷ [])
     -- `<!DOCTYPE a public 'b''c'>`: a quote at once after the public one
-    ∷ row 26 (codes " a public 'b''c'>") (Some (codes "a")) (Some (codes "b")) (Some (codes "c")) false (error MissingWhitespaceBetweenDoctypePublicAndSystemIdentifiers 22 ∷ [])
+    ∷ row 26 (codes " a public 'b''c'>") (Some (codes "a")) (Some (codes "b")) (Some (codes "c")) false
+    (error MissingWhitespaceBetweenDoctypePublicAndSystemIdentifiers 22 ∷ [])
     -- `<!DOCTYPE a public 'b' c'>`: neither a quote nor `>` after the public one
     ∷ row 26 (codes " a public 'b' c'>") (Some (codes "a")) (Some (codes "b")) None true (error MissingQuoteBeforeDoctypeSystemIdentifier 23 ∷ [])
     -- `<!DOCTYPE a system 'b' c>`: neither white space nor `>` after the system one
@@ -72,7 +73,8 @@ table =
     -- `<!DOCTYPE a syste`, and the input ends: the only error is that of the keyword
     ∷ row 17 (codes " a syste") (Some (codes "a")) None None true (error InvalidCharacterSequenceAfterDoctypeName 12 ∷ [])
     -- a skipped rest that begins with NUL: both errors are at the same place
-    ∷ row 16 (codes " a " ++ (0 ∷ (codes "b" ++ (0 ∷ codes ">")))) (Some (codes "a")) None None true (error InvalidCharacterSequenceAfterDoctypeName 12 ∷ error UnexpectedNullCharacter 12 ∷ error UnexpectedNullCharacter 14 ∷ [])
+    ∷ row 16 (codes " a " ++ (0 ∷ (codes "b" ++ (0 ∷ codes ">")))) (Some (codes "a")) None None true
+    (error InvalidCharacterSequenceAfterDoctypeName 12 ∷ error UnexpectedNullCharacter 12 ∷ error UnexpectedNullCharacter 14 ∷ [])
     -- NUL in a name, right after `<!DOCTYPE`
     ∷ row 11 (0 ∷ codes ">") (Some (239 ∷ 191 ∷ 189 ∷ [])) None None false (error MissingWhitespaceBeforeDoctypeName 9 ∷ error UnexpectedNullCharacter 9 ∷ [])
     -- NUL in an identifier

@@ -1,6 +1,5 @@
 -- Names and identifiers that grow.
-use Rattle.hmarkup.proofs.Names.{◌≡◌, ℕ, true, List, [], ◌∷◌, ◌++◌, map, sym, refl, ap, ◌∙◌, Option, Some, None, append_assoc, append-nil, false≢true, map-append, encodes-append, encode_utf8_all, is_some, to_ascii_lowercase, Placed, text_bytes, name_bytes, without_null, Identifier, Public, System, Found, with_name, identified, identifier_of}
-use Rattle.hmarkup.specs.Doctype.{lengthened}
+use Rattle.hmarkup.proofs.Names.{◌≡◌, ℕ, true, List, [], ◌∷◌, ◌++◌, map, sym, refl, ap, ◌∙◌, Option, Some, None, append_assoc, append-nil, false≢true, map-append, encodes-append, encode_utf8_all, is_some, to_ascii_lowercase, Placed, text_bytes, name_bytes, without_null, Identifier, Public, System, Found, with_name, identified, identifier_of, lengthened}
 use Rattle.hmarkup.proofs.Marks.{text_bytes-append}
 
 pub name_bytes-append : (xs ys : List Placed) → name_bytes (xs ++ ys) ≡ name_bytes xs ++ name_bytes ys
@@ -21,7 +20,8 @@ named-twice xs ys known = ap (λ (x : List ℕ). record known { name = Some x })
 pub named_not : (known : Found) → is_some known.name ≡ true → with_name [] known ≡ known
 named_not known h = ap (λ (x : Option (List ℕ)). record known { name = x }) (longer_not known.name h)
 
-pub identified-twice : (which : Identifier) (xs ys : List ℕ) (known : Found) → identified which ys (identified which xs known) ≡ identified which (xs ++ ys) known
+pub identified-twice : (which : Identifier) (xs ys : List ℕ) (known : Found)
+    → identified which ys (identified which xs known) ≡ identified which (xs ++ ys) known
 identified-twice Public xs ys known = ap (λ (x : List ℕ). record known { public = Some x }) (longer-twice known.public xs ys)
 identified-twice System xs ys known = ap (λ (x : List ℕ). record known { system = Some x }) (longer-twice known.system xs ys)
 
@@ -34,8 +34,10 @@ is_identified Public bytes known = refl
 is_identified System bytes known = refl
 
 -- one character more
-pub named-cons : (p : Placed) (ps : List Placed) (known : Found) → with_name (name_bytes (p ∷ ps)) known ≡ with_name (name_bytes ps) (with_name (name_bytes (p ∷ [])) known)
+pub named-cons : (p : Placed) (ps : List Placed) (known : Found)
+    → with_name (name_bytes (p ∷ ps)) known ≡ with_name (name_bytes ps) (with_name (name_bytes (p ∷ [])) known)
 named-cons p ps known = ap (λ (x : List ℕ). with_name x known) (name_bytes-append (p ∷ []) ps) ∙ sym (named-twice (name_bytes (p ∷ [])) (name_bytes ps) known)
 
-pub identified-cons : (which : Identifier) (p : Placed) (ps : List Placed) (known : Found) → identified which (text_bytes (p ∷ ps)) known ≡ identified which (text_bytes ps) (identified which (text_bytes (p ∷ [])) known)
-identified-cons which p ps known = ap (λ (x : List ℕ). identified which x known) (text_bytes-append (p ∷ []) ps) ∙ sym (identified-twice which (text_bytes (p ∷ [])) (text_bytes ps) known)
+pub identified-cons : (which : Identifier) (p : Placed) (ps : List Placed) (known : Found)
+    → identified which (text_bytes (p ∷ ps)) known ≡ identified which (text_bytes ps) (identified which (text_bytes (p ∷ [])) known)
+identified-cons which p ps known = cc (text_bytes-append (p ∷ []) ps, identified-twice which (text_bytes (p ∷ [])) (text_bytes ps) known)

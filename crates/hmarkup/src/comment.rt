@@ -63,6 +63,7 @@ impl CommentWalk {
     }
 
     /// A walk for what follows `<!--`, as the markup declaration open state (`#markup-declaration-open-state`) begins it.
+    #[tactic(auto, using(crate::proofs::Walking::comment_begins))]
     pub fn comment(alloc: Global) -> CommentWalk
         ensures { HasReadOf Comment result [] [] }
     {
@@ -199,6 +200,7 @@ impl CommentWalk {
 
 /// If a text begins with what a walk has read, then the comment at its front does too, and that comment's errors begin with
 /// those reported so far. The comment cannot end there unless the input does.
+#[tactic(auto, using(crate::proofs::Outcomes::begins_of, crate::proofs::Outcomes::open_of))]
 pub fn goes_on_in_a_span()
     ensures begins { (kind : Kind) (walk : Progress) (text : List Placed) (errors : List Error) → HasReadOf kind walk text errors
         → BeginsSpans (IsCommentSpan kind) text errors }
@@ -207,17 +209,20 @@ pub fn goes_on_in_a_span()
 {}
 
 /// What a walk has read can always be completed: with `-->` after it, or `>` for a bogus comment, it is a whole comment.
+#[tactic(auto, using(crate::proofs::Closing::closed_span))]
 pub fn closing_mark_ends_a_span()
     ensures { (kind : Kind) (walk : Progress) (text closing : List Placed) (errors : List Error) → HasReadOf kind walk text errors
         → characters closing ≡ closing_mark kind → ClosedBy (IsCommentSpan kind) text closing }
 {}
 
 /// Every text begins with a comment, which may extend to the end of the text.
+#[tactic(auto, using(crate::proofs::SomeSpan::some_span))]
 pub fn some_span()
     ensures { (kind : Kind) (end : ℕ) (text : List Placed) → HasMarkupSpan (IsCommentSpan kind) end text }
 {}
 
 /// A text begins with at most one comment.
+#[tactic(auto, using(crate::proofs::OneSpan::one_of))]
 pub fn one_span()
     ensures { (kind : Kind) → IsOneSpan (IsCommentSpan kind) }
 {}

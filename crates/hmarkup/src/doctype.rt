@@ -101,6 +101,7 @@ impl Doctype {
 
 impl DoctypeWalk {
     /// A walk for what follows `<!DOCTYPE`, in the DOCTYPE state (`#doctype-state`).
+    #[tactic(auto, using(crate::proofs::Reading::read_nothing))]
     pub fn new(alloc: Global) -> DoctypeWalk
         ensures { HasReadDoctype result [] [] }
     {
@@ -197,6 +198,7 @@ pub fn greater_ends_a_doctype()
 {}
 
 /// Every text begins with a doctype, which may extend to the end of the text.
+#[tactic(auto, using(crate::proofs::SomeSpan::some_doctype))]
 pub fn some_doctype()
     ensures { (end : ℕ) (text : List Placed) → HasMarkupSpan IsDoctype end text }
 {}

@@ -1,4 +1,4 @@
-use Rattle.hmarkup.proofs.InBogus.{plain_read}
+use Rattle.hmarkup.proofs.Walking.{plain_read}
 use Rattle.hmarkup.proofs.comment.CommentWalk.bogus_after.Goals as goal
 
 pub returns : goal.returns

@@ -1,6 +1,4 @@
-use Rattle.hmarkup.proofs.Names.{◌≡◌, ◌+◌, drop}
-use Rattle.std.specs.List.{prefix_len}
-use Rattle.hmarkup.specs.DoctypeWalk.{is_data}
+use Rattle.hmarkup.proofs.Names.{◌≡◌, ◌+◌, drop, prefix_len, is_data}
 use Rattle.hmarkup.proofs.doctype.DoctypeWalk.data_run.Given as goal
 
 abbrev pub invariant-loop-index : goal.invariant-loop-index
