@@ -1,15 +1,7 @@
 -- Texts for all numbers.
-use Rattle.names.proofs.Vocabulary.{◌≡◌, ℕ, ◌+◌, ◌<◌, ◌≤◌, zero, suc, Bool, true, false, cond, List, [], ◌∷◌, length, sym, refl, ap, ◌∙◌, subst, arith, inl, inr, bytes_eq, replicate, nat_le, list_all, length-replicate, get_or_past, cases_lt, leb-true, and_parts, slice_get-get_or, slice_get_within, get_or_from_slice_get, Tag, Other, tag_text, tags, tag_of, tag_named, tag_among, Texts, text_of, AreDistinct, AreNames, text_total, spelling, known}
-use Rattle.std.specs.Prelude.{nat_eq}
-use Rattle.std.proofs.lemmas.Bool.{lt-ltb, le-ltb}
-use Rattle.std.proofs.lemmas.List.{length-take}
-use Rattle.std.proofs.lemmas.Bool.Decides.{eqb_tells}
-use Rattle.names.specs.Spelling.{IsSpelled}
+use Rattle.names.proofs.Vocabulary.{◌≡◌, ℕ, ◌+◌, ◌<◌, ◌≤◌, zero, suc, Bool, true, List, [], ◌∷◌, length, sym, refl, ap, ◌∙◌, subst, arith, inl, inr, bytes_eq, nat_le, list_all, length-replicate, get_or_past, cases_lt, leb-true, and_parts, slice_get-get_or, slice_get_within, get_or_from_slice_get, Tag, Other, tag_text, tags, tag_of, tag_named, tag_among, Texts, text_of, AreDistinct, AreNames, text_total, spelling, known, nat_eq, lt-ltb, le-ltb, length-take, eqb_tells, IsSpelled}
 use Rattle.names.proofs.KnownTags.{different, tag_of-named}
 use Rattle.names.proofs.TableLemmas.{bytes_eq-same}
-
-abbrev pub beyond : Texts → ℕ → List ℕ
-beyond names id = replicate (1 + (text_total names + id)) 0
 
 -- no text of a table is longer than all of them
 pub length-text_of : (names : Texts) (id : ℕ) → id < length names → length (text_of names id) ≤ text_total names
@@ -17,32 +9,27 @@ length-text_of [] id within = absurd (omega (arith, within))
 length-text_of (text ∷ names) zero within = omega arith
 length-text_of (text ∷ names) (suc id) within = omega (arith, length-text_of names id (omega (arith, within)))
 
--- what the spelling is, within the table and beyond it
+-- what the spelling is within the table, and how long it is beyond it
 pub spelled_within : (names : Texts) (id : ℕ) → id < length names → spelling names id ≡ text_of names id
-spelled_within names id within = ap (λ (v : Bool). cond v (text_of names id) (beyond names id)) (lt-ltb id (length names) within)
+spelled_within names id within = rw (lt-ltb id (length names) within) refl
 
-pub spelled_beyond : (names : Texts) (id : ℕ) → length names ≤ id → spelling names id ≡ beyond names id
-spelled_beyond names id past = ap (λ (v : Bool). cond v (text_of names id) (beyond names id)) (le-ltb id (length names) past)
+pub length-beyond : (names : Texts) (id : ℕ) → length names ≤ id → length (spelling names id) ≡ 1 + (text_total names + id)
+length-beyond names id past = rw (le-ltb id (length names) past) (length-replicate (1 + (text_total names + id)) 0)
+
+length-within : (names : Texts) (id : ℕ) → id < length names → length (spelling names id) ≤ text_total names
+length-within names id within =
+    subst (λ (t : List ℕ). length t ≤ text_total names) (sym (spelled_within names id within)) (length-text_of names id within)
 
 -- so no two numbers have one text
-inside_and_beyond : (names : Texts) (a b : ℕ) → a < length names → length names ≤ b → spelling names a ≡ spelling names b → ⊥
-inside_and_beyond names a b within past e =
-    let same : length (text_of names a) ≡ 1 + (text_total names + b) =
-    ap length (sym (spelled_within names a within) ∙ e ∙ spelled_beyond names b past) ∙ length-replicate (1 + (text_total names + b)) 0 in
-    omega (arith, length-text_of names a within)
-
 one_to_one : (names : Texts) → AreDistinct names → (a b : ℕ) → spelling names a ≡ spelling names b → a ≡ b
 one_to_one names distinct a b e = elim (cases_lt a (length names)) [
   | inl a_in ↦ elim (cases_lt b (length names)) [
     | inl b_in ↦ distinct a b a_in b_in (sym (spelled_within names a a_in) ∙ e ∙ spelled_within names b b_in)
-    | inr b_past ↦ absurd (inside_and_beyond names a b a_in b_past e)
+    | inr b_past ↦ absurd (omega (arith, ap length e, length-within names a a_in, length-beyond names b b_past))
   ]
   | inr a_past ↦ elim (cases_lt b (length names)) [
-    | inl b_in ↦ absurd (inside_and_beyond names b a b_in a_past (sym e))
-    | inr b_past ↦
-        let same : 1 + (text_total names + a) ≡ 1 + (text_total names + b) =
-        sym (length-replicate (1 + (text_total names + a)) 0) ∙ ap length (sym (spelled_beyond names a a_past) ∙ e ∙ spelled_beyond names b b_past) ∙ length-replicate (1 + (text_total names + b)) 0 in
-        omega arith
+    | inl b_in ↦ absurd (omega (arith, ap length e, length-within names b b_in, length-beyond names a a_past))
+    | inr b_past ↦ omega (arith, ap length e, length-beyond names a a_past, length-beyond names b b_past)
   ]
 ]
 
@@ -61,10 +48,9 @@ are_short ts = list_all (λ t. nat_le (length (tag_text t)) longest) ts
 
 tag_among-long : (ts : List Tag) (text : List ℕ) → are_short ts ≡ true → longest < length text → tag_among ts text ≡ Other
 tag_among-long [] text short long = refl
-tag_among-long (t ∷ ts) text short long =
-    let (first, rest) = and_parts (nat_le (length (tag_text t)) longest) (are_short ts) short in
-    let no : bytes_eq (tag_text t) text ≡ false = different (tag_text t) text (λ e. let k : length (tag_text t) ≡ length text = ap length e in let le : length (tag_text t) ≤ 16 = leb-true (length (tag_text t)) 16 first in omega (arith, le, k)) in
-    ap (λ (v : Bool). cond v t (tag_among ts text)) no ∙ tag_among-long ts text rest long
+tag_among-long (t ∷ ts) text short long = let (first, rest) = and_parts (nat_le (length (tag_text t)) longest) (are_short ts) short in
+    let no = different (tag_text t) text (λ e. omega (arith, leb-true (length (tag_text t)) 16 first, long, ap length e)) in
+    rw no (tag_among-long ts text rest long)
 
 -- the known names are of each table
 pub known-within : (names : Texts) → AreNames names → length known ≤ length names
@@ -73,10 +59,8 @@ known-within names h = omega (arith, ap length h.known_first, length-take (lengt
 same_tags : (names : Texts) → AreNames names → (a : ℕ) → tag_named (spelling names a) ≡ tag_of a
 same_tags names h a = elim (cases_lt a (length names)) [
   | inl a_in ↦ ap tag_named (spelled_within names a a_in) ∙ sym (tag_of-named names a (text_of names a) h (slice_get-get_or names a [] a_in))
-  | inr a_past ↦
-      let many : length known ≤ length names = known-within names h in
-      ap tag_named (spelled_beyond names a a_past)
-      ∙ tag_among-long tags (beyond names a) refl (subst (λ (n : ℕ). 16 < n) (sym (length-replicate (1 + (text_total names + a)) 0)) (omega (arith, many, a_past)))
+  | inr a_past ↦ let many : length known ≤ length names = known-within names h in
+      tag_among-long tags (spelling names a) refl (omega (arith, many, a_past, length-beyond names a a_past))
       ∙ sym (get_or_past tags a Other (omega (arith, many, a_past)))
 ]
 

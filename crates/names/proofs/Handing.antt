@@ -1,8 +1,5 @@
 -- Laws of handing items to a sink, and of tables that grow.
-use Rattle.names.proofs.Vocabulary.{◌≡◌, ℕ, zero, suc, List, [], ◌∷◌, ◌++◌, sym, ap, ◌∙◌, subst, Some, append-nil, append_assoc, slice_get, Texts}
-use Rattle.std.proofs.Common.{Result, Ok, Err}
-use Rattle.names.specs.Names.{Grows}
-use Rattle.names.specs.Sink.{Hands, Continues}
+use Rattle.names.proofs.Vocabulary.{◌≡◌, ℕ, zero, suc, List, [], ◌∷◌, ◌++◌, sym, ap, ◌∙◌, subst, Some, append-nil, append_assoc, slice_get, Texts, Result, Ok, Err, Grows, Hands, Continues}
 
 -- a number keeps its text
 pub slice_get-append : {X : Type 0} (xs more : List X) (i : ℕ) (x : X) → slice_get xs i ≡ Some x → slice_get (xs ++ more) i ≡ Some x
@@ -22,13 +19,15 @@ grows_on a b c (xs, e) (ys, f) = (xs ++ ys, f ∙ ap (λ (x : Texts). x ++ ys) e
 
 module _ {S X E : Type 0} (gives : S → X → Result (Unit {0}) E → S → Type 0) where
   -- one list after another
-  pub Hands-append : (old mid new : S) (xs ys : List X) (answer : Result (Unit {0}) E) → Hands gives old xs (Ok tt) mid → Hands gives mid ys answer new → Hands gives old (xs ++ ys) answer new
+  pub Hands-append : (old mid new : S) (xs ys : List X) (answer : Result (Unit {0}) E) → Hands gives old xs (Ok tt) mid → Hands gives mid ys answer new
+      → Hands gives old (xs ++ ys) answer new
   Hands-append old mid new [] ys answer h k = subst (λ (s : S). Hands gives s ys answer new) (sym h.1) k
   Hands-append old mid new (x ∷ xs) ys answer (Ok u, next, given, more) k = (Ok u, next, given, Hands-append next mid new xs ys answer more k)
   Hands-append old mid new (x ∷ xs) ys answer (Err e, next, given, more) k = let no_way = more.0 in absurd cc
 
   -- more items were handed over, and what is left goes on from there
-  pub Continues-more : (old now next : S) (items xs rest : List X) → Continues gives old items now (xs ++ rest) → Hands gives now xs (Ok tt) next → Continues gives old items next rest
+  pub Continues-more : (old now next : S) (items xs rest : List X) → Continues gives old items now (xs ++ rest) → Hands gives now xs (Ok tt) next
+      → Continues gives old items next rest
   Continues-more old now next items xs rest continues given = λ answer new h. continues answer new (Hands-append now next new xs rest answer given h)
 
   pub Continues-all : (old : S) (items : List X) → Continues gives old items old items

@@ -1,8 +1,5 @@
 -- Words on lists and texts: what is the same where two begin alike, what holds of each character, and tests of two parts.
-use Rattle.names.proofs.Vocabulary.{◌≡◌, ℕ, Bool, true, false, not, ◌&&◌, ◌||◌, List, [], ◌∷◌, ◌++◌, Some, refl, ap, and_parts, list_all}
-use Rattle.std.proofs.lemmas.Bool.{and_from}
-use Rattle.names.specs.declared.placed.Placed.{Placed}
-use Rattle.names.specs.Placed.{characters, all, begins}
+use Rattle.names.proofs.Vocabulary.{◌≡◌, ℕ, Bool, true, false, not, ◌&&◌, ◌||◌, List, [], ◌∷◌, ◌++◌, Some, refl, ap, and_parts, list_all, and_from, Placed, characters, all, begins}
 
 pub heads : {A : Type 0} (x y : A) (xs ys : List A) → x ∷ xs ≡ y ∷ ys → x ≡ y
 heads x y xs ys e = cc

@@ -1,4 +1,4 @@
--- Names as numbers: a table is the list of its texts, each by its bytes in UTF-8, and a number is a place in it.
+-- Names as numbers: a table is the list of its texts, each by its bytes in UTF-8, and a number is an index in it.
 use Rattle.std.specs.Prelude.{◌≡◌, ℕ, ◌<◌, nat_lt, if◌then◌else◌, List, ◌∷◌, ◌++◌, take, length, slice_index_or, []}
 use Rattle.names.specs.Tags.{known}
 

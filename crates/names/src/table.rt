@@ -31,7 +31,7 @@ impl Model for NameId {
 }
 
 impl NameId {
-    /// The number itself: the place of the name in the table, from 0.
+    /// The number itself: the index of the name in the table, from 0.
     pub fn index(self) -> usize
         ensures { result ≡ self }
     {

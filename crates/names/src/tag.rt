@@ -20,7 +20,7 @@ pub enum Tag {
     Textarea, Tfoot, Th, Thead, Time, Title, Tr, Track, Tt, U, Ul, Var, Wbr, Xmp, Other,
 }
 
-/// The texts of the tags, each at the place of its tag in the enum.
+/// The texts of the tags, each at the index of its tag in the enum.
 #[rattlefmt::skip]
 static TEXTS: [&str; 128] = [
     "a", "abbr", "address", "applet", "area", "article", "aside", "b", "base", "basefont", "bdi",

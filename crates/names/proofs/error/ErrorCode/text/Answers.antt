@@ -1,10 +1,6 @@
-use Rattle.names.proofs.Vocabulary.{◌≡◌, [], ◌++◌, map, get_or, refl}
+use Rattle.names.proofs.Vocabulary.{◌≡◌, [], ◌++◌, map, get_or, refl, ErrorCode, TreeText, code_text, input_codes, token_codes, tree_codes}
 use denote.Enum.Declared as enum
 use Rattle.names.specs.contracts.error.ErrorCode as contract
-use Rattle.names.specs.declared.error.ErrorCode.{ErrorCode}
-use Rattle.names.specs.declared.error.ErrorCode.TheVariants.{TreeText}
-use Rattle.names.specs.Codes.{code_text}
-use Rattle.names.specs.CodeRows.{input_codes, token_codes, tree_codes}
 use Rattle.names.proofs.TextTables.{text-at}
 use Rattle.names.proofs.error.ErrorCode.text.Goals as goal
 

@@ -1,4 +1,4 @@
-use Rattle.std.proofs.lemmas.Str.{IsUtf8-had}
+use Rattle.names.proofs.Vocabulary.{IsUtf8-had}
 use Rattle.names.proofs.short.ShortText.as_str.Goals as goal
 
 pub from_utf8_unchecked-requires : goal.from_utf8_unchecked-requires

@@ -1,12 +1,12 @@
-use Rattle.std.proofs.Common.{◌++◌, ◌+◌, ◌-◌, length, take, ap, ◌∙◌, arith, rules, subst, sym, IsUtf8}
-use Rattle.std.proofs.lemmas.Slice.{take-put_mid, overwrites}
-use Rattle.std.proofs.lemmas.Str.{IsUtf8-had, IsUtf8-append}
+use Rattle.names.proofs.Vocabulary.{◌++◌, ◌+◌, ◌-◌, length, take, ap, ◌∙◌, arith, rules, subst, sym, IsUtf8, take-put_mid, overwrites, IsUtf8-had, IsUtf8-append}
 use Rattle.names.proofs.short.ShortText.push_str.Goals as goal
 
 pub invariant_of-self : goal.invariant_of-self
-invariant_of-self g c =
-    let held = c.self.inside in
-    let added = c.copy_from_slice.ensures.after ∙ c.as_bytes.ensures.value in
+invariant_of-self g c = let held = c.self.inside in let added = c.copy_from_slice.ensures.after ∙ c.as_bytes.ensures.value in
     let front = take-put_mid held.len (held.len + length c.args.more.now - held.len) held.bytes c.copy_from_slice.new.self (held.len + length c.args.more.now)
-    (omega (arith, ap length added)) (omega (arith, c.self.invariant)) ∙ ap (λ l. take held.len held.bytes ++ l) added in
-    (c.self.invariant.0, omega arith, search (rules, overwrites), ∣ subst IsUtf8 (sym front) (IsUtf8-append _ _ (IsUtf8-had _ c.self.invariant.3) c.utf8.more) ∣₁)
+    (omega (arith, ap length added)) (omega (arith, c.self.invariant)) ∙ ap (λ l. take held.len held.bytes ++ l) added in (
+      c.self.invariant.0,
+      omega arith,
+      search (rules, overwrites),
+      ∣ subst IsUtf8 (sym front) (IsUtf8-append _ _ (IsUtf8-had _ c.self.invariant.3) c.utf8.more) ∣₁,
+    )

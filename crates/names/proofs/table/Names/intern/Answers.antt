@@ -7,13 +7,15 @@ pub returns-in-Some-clause-tag : goal.returns-in-Some-clause-tag
 returns-in-Some-clause-tag c = tag_of-named c.args.self.now c.in-Some.id c.args.text.now c.in-Some.ensures.names c.in-Some.ensures.found
 
 pub returns-in-Some-clause-added : goal.returns-in-Some-clause-added
-returns-in-Some-clause-added c = interned-there c.args.self.now c.in-Some.id c.args.text.now (slice_get_within c.args.self.now c.in-Some.id c.args.text.now c.in-Some.ensures.found)
+returns-in-Some-clause-added c =
+    interned-there c.args.self.now c.in-Some.id c.args.text.now (slice_get_within c.args.self.now c.in-Some.id c.args.text.now c.in-Some.ensures.found)
 
 pub returns-clause-names : goal.returns-clause-names
 returns-clause-names c = are_names _ c.self.invariant.0
 
 pub returns-clause-tag : goal.returns-clause-tag
-returns-clause-tag c = tag_of-named _ c.in_ok-id.id c.args.text.now (are_names _ c.self.invariant.0) (ap (λ (x : Texts). slice_get x c.in_ok-id.id) c.self.view_is ∙ c.in_ok-id.ensures.number)
+returns-clause-tag c = tag_of-named _ c.in_ok-id.id c.args.text.now (are_names _ c.self.invariant.0)
+    (ap (λ (x : Texts). slice_get x c.in_ok-id.id) c.self.view_is ∙ c.in_ok-id.ensures.number)
 
 pub returns-clause-grows : goal.returns-clause-grows
 returns-clause-grows c = let g = grows-interned c.args.self.now c.in_ok-id.id c.args.text.now in (g.0, c.self.view_is ∙ c.in_ok-id.ensures.added ∙ g.1)

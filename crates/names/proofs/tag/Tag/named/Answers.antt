@@ -4,7 +4,8 @@ use Rattle.names.proofs.KnownTexts.{known-distinct}
 use Rattle.names.proofs.tag.Tag.named.Goals as goal
 
 pub returns-in-Some : goal.returns-in-Some
-returns-in-Some c = c.tag.ensures ∙ tag_of-named known c.in-Some.index c.args.text.now (record { known_first = refl; distinct = known-distinct }) c.in-Some.ensures
+returns-in-Some c =
+    c.tag.ensures ∙ tag_of-named known c.in-Some.index c.args.text.now (record { known_first = refl; distinct = known-distinct }) c.in-Some.ensures
 
 pub returns-in-None : goal.returns-in-None
 returns-in-None c = sym (none_named tags (type_name ∷ []) c.args.text.now c.in-None.ensures)

@@ -1,20 +1,13 @@
-use Rattle.names.proofs.Vocabulary.{◌≡◌, ℕ, Bool, true, List, [], ◌∷◌, get_or, refl, sym, ◌∙◌, ◌<◌, arith, inl, inr, list_all, Tag, Other}
-use Rattle.std.proofs.Math.Bool.{beq}
-use Rattle.std.proofs.lemmas.Bool.{cases_Bool, false≢true}
-use Rattle.std.proofs.lemmas.List.Folds.{list_all_at}
-use Rattle.std.specs.Cmp.{booleans_Decides}
+use Rattle.names.proofs.Vocabulary.{◌≡◌, ℕ, Bool, true, List, [], ◌∷◌, get_or, refl, sym, ◌∙◌, ◌<◌, arith, inl, inr, list_all, Tag, Other, beq, cases_Bool, false≢true, list_all_at, booleans_Decides, SETS, SPECIAL, FORMATTING, IMPLIED_END, SCOPE, LIST_ITEM_SCOPE, BUTTON_SCOPE, TABLE_SCOPE, ITEM_STOP, MAY_STAY_OPEN, HEADING, TABLE_SECTION, CELL, TELLS_MODE, VOID, has_implied_end, is_cell, is_formatting, is_heading, is_special, is_table_section, is_void, may_stay_open, stops_button_scope, stops_item, stops_list_item_scope, stops_scope, stops_table_scope, tells_mode, has_set}
 use denote.Enum.Declared as enum
 use Rattle.names.specs.contracts.tag.Tag as contract
-use Rattle.names.specs.declared.sets.TheConstants.{SETS, SPECIAL, FORMATTING, IMPLIED_END, SCOPE, LIST_ITEM_SCOPE, BUTTON_SCOPE, TABLE_SCOPE, ITEM_STOP, MAY_STAY_OPEN, HEADING, TABLE_SECTION, CELL, TELLS_MODE, VOID}
-use Rattle.names.specs.Sets.{has_implied_end, is_cell, is_formatting, is_heading, is_special, is_table_section, is_void, may_stay_open, stops_button_scope, stops_item, stops_list_item_scope, stops_scope, stops_table_scope, tells_mode}
-use Rattle.names.specs.TagSets.{has_set}
 use Rattle.names.proofs.tag.Tag.sets.Goals as goal
 
 -- each set and its bit
 abbrev every_set : List (ℕ × (Tag → Bool))
 every_set =
-    (SPECIAL, is_special) ∷ (FORMATTING, is_formatting) ∷ (IMPLIED_END, has_implied_end) ∷ (SCOPE, stops_scope) ∷ (LIST_ITEM_SCOPE, stops_list_item_scope) ∷ (BUTTON_SCOPE, stops_button_scope)
-    ∷ (TABLE_SCOPE, stops_table_scope) ∷ (ITEM_STOP, stops_item) ∷ (MAY_STAY_OPEN, may_stay_open) ∷ (HEADING, is_heading)
+    (SPECIAL, is_special) ∷ (FORMATTING, is_formatting) ∷ (IMPLIED_END, has_implied_end) ∷ (SCOPE, stops_scope) ∷ (LIST_ITEM_SCOPE, stops_list_item_scope)
+    ∷ (BUTTON_SCOPE, stops_button_scope) ∷ (TABLE_SCOPE, stops_table_scope) ∷ (ITEM_STOP, stops_item) ∷ (MAY_STAY_OPEN, may_stay_open) ∷ (HEADING, is_heading)
     ∷ (TABLE_SECTION, is_table_section) ∷ (CELL, is_cell) ∷ (TELLS_MODE, tells_mode) ∷ (VOID, is_void) ∷ []
 
 -- the number that the table has at a name's place
