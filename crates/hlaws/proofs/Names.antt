@@ -1,11 +1,11 @@
--- The names of other crates and of specs/ that several proofs cite, in one place.
+-- The names of other crates and of specs/ that the proofs cite, in one place.
 pub use Rattle.charref.specs.Reference.{Entities, IsTable, HasCore, longest, ends_in_semicolon, Piece, named_piece, Entry, is_key, is_key_name, IsReference, named, core}
 pub use Rattle.hadopt.specs.Closes.{is_table_context, is_body_context, is_row_context, is}
 pub use Rattle.hadopt.specs.Naming.{texts, Naming}
 pub use Rattle.hadopt.specs.Places.{is_fostering}
 pub use Rattle.hadopt.specs.Reconstructs.{reconstructed}
 pub use Rattle.hadopt.specs.Site.{Goes, Outcome, Refused, stack, with_error, trees}
-pub use Rattle.hlaws.specs.Building.{BuildsForest, fits_mode, fits_current, is_flow_mode, numbered_forest, holds_list_items, is_dl, takes_space, under, EntriesOpen, Thinned, same, kept, lost, EntriesLower, IsQuiet, is_colgroup, depth, ActsAs, is_character_token, closes_p, AllLower}
+pub use Rattle.hlaws.specs.Building.{BuildsForest, fits_mode, fits_current, is_flow_mode, numbered_forest, holds_list_items, is_dl, takes_space, under, EntriesOpen, Thinned, same, kept, lost, EntriesLower, IsQuiet, is_colgroup, depth, ActsAs, is_character_token, closes_p, AllLower, IsBuiltForest}
 pub use Rattle.hlaws.specs.ComesBack.{decoded_text, AreTexts, AreRead, PlainTokens, FitsForest, GivesForest, PlainComesBack, PlainBuilds, AreUtf8}
 pub use Rattle.hlaws.specs.DocumentComesBack.{PlainDocumentTokens, PlainDocumentBuilds, PlainDocumentComesBack, GivesDocument, without_identifiers, ComesBackWithoutIdentifiers}
 pub use Rattle.hlaws.specs.OneAnswer.{ExactlyOne, OneAnswer, OneParse}
@@ -25,8 +25,8 @@ pub use Rattle.hmodes.specs.declared.family.Family.{Family}
 pub use Rattle.hmodes.specs.declared.mode.Mode.{Mode}
 pub use Rattle.hmodes.specs.declared.mode.Mode.TheVariants.{InBody, InCaption, InCell, InTable, InTableBody, InRow, InColumnGroup, Text, InTableText, Initial, BeforeHtml, BeforeHead, InHead, AfterHead, AfterBody, AfterAfterBody}
 pub use Rattle.hmodes.specs.declared.token_kind.TokenKind.{TokenKind}
-pub use Rattle.hmodes.specs.declared.token_kind.TokenKind.TheVariants.{Comment, Start, End, Ws, Doctype, Nul, Char}
-pub use Rattle.hnodes.proofs.Forests.{join-none, last_or-join, join-assoc, change_children-absent, children_of-absent}
+pub use Rattle.hmodes.specs.declared.token_kind.TokenKind.TheVariants.{Comment, Start, End, Ws, Nul, Char}
+pub use Rattle.hnodes.proofs.Forests.{join-none, last_or-join, join-assoc, change_children-absent, children_of-changed}
 pub use Rattle.hnodes.specs.Clean.{has_no_null_or_return}
 pub use Rattle.hnodes.specs.Edits.{graft_last, if_text, text_before, with_char}
 pub use Rattle.hnodes.specs.Forest.{Forest, none, tree, size, children_of, element, text, What, times, join, Attribute, change_children, change_what, doctype}
@@ -46,7 +46,7 @@ pub use Rattle.hserialize.specs.Plain.{are_content_if, in_context_of, is_form_el
 pub use Rattle.hserialize.specs.PlainDocument.{is_leaf, leaves_then, comments_then, doctype_then, element_then, is_metadata, inside_head, are_metadata, body_on, are_in_html, html_on, is_plain_document, ends_document}
 pub use Rattle.hserialize.specs.Walk.{inserts_marker}
 pub use Rattle.hserialize.specs.Words.{is_empty_text}
-pub use Rattle.hserialize.specs.Written.{start_tag_text, end_tag_text, written, written_among, node_text, is_raw_in, attribute_text, has_no_references, element_text}
+pub use Rattle.hserialize.specs.Written.{start_tag_text, end_tag_text, written, written_among, node_text, is_raw_in, attribute_text, has_no_references}
 pub use Rattle.hserialize.specs.declared.content.Content.{Content}
 pub use Rattle.hserialize.specs.declared.content.Role.{Role}
 pub use Rattle.hserialize.specs.declared.content.Texts.{Texts}
@@ -58,7 +58,7 @@ pub use Rattle.htext.specs.Text.{Policy, read_len, refusal_of, character_of, dec
 pub use Rattle.htext.specs.declared.Bom.{Bom}
 pub use Rattle.htext.specs.declared.Bom.TheVariants.{Keep, Drop}
 pub use Rattle.htoken.proofs.InData.{in_data}
-pub use Rattle.htoken.proofs.InRaw.{in_raw}
+pub use Rattle.htoken.proofs.InRaw.{in_raw, after_characters}
 pub use Rattle.htoken.proofs.OneCut.{one_list_of_tokens, no_tokens_of_refused, one_refusal, refused_parts, one_is_front, first}
 pub use Rattle.htoken.proofs.SomeCut.{some_answer}
 pub use Rattle.htoken.specs.Data.{character_span, comment_span}
@@ -81,9 +81,9 @@ pub use Rattle.names.specs.declared.raw.RefusedName.{RefusedName}
 pub use Rattle.names.specs.declared.refusal.Refusal.{Refusal}
 pub use Rattle.names.specs.declared.refusal.Refusal.TheVariants.{OutOfProfile}
 pub use Rattle.names.specs.declared.tag.Tag.{Tag}
-pub use Rattle.std.proofs.Common.{◌≡◌, ℕ, ◌≤◌, List, ◌++◌, length, map, None, Ok, refl, sym, ap, ◌∙◌, subst, Bool, true, not, ◌&&◌, ◌||◌, ◌+◌, false, [], ◌∷◌, Some, arith, ◌⊎◌, inl, inr, Option, zero, suc, ◌<◌, eqb, cond, Result, Err, append-nil, append_assoc, nat_eq, true≢false, drop, nat_lt, take, option_and_then, filter, Contains, rules}
+pub use Rattle.std.proofs.Common.{◌≡◌, ℕ, ◌≤◌, List, ◌++◌, length, map, None, Ok, refl, sym, ap, ◌∙◌, subst, Bool, true, not, ◌&&◌, ◌||◌, ◌+◌, false, [], ◌∷◌, Some, arith, ◌⊎◌, inl, inr, Option, zero, suc, ◌<◌, eqb, cond, Result, Err, append-nil, append_assoc, nat_eq, true≢false, drop, nat_lt, take, option_and_then, filter, Contains, rules, IsPermutation, IsSorted, chars, encode_utf8, IsUtf8, nat_le, bytes_eq, codes, encode_utf8_all, ◌==◌, flat_map, slice_get, max, IsAscii, unwrap_or, option_map, nat_cmp, is_lt, Equal}
 pub use Rattle.std.proofs.Math.Utf8.{scalar, scalars, low_scalar}
-pub use Rattle.std.proofs.lemmas.Bool.{false≢true, ne_eqb, and_parts, eqb-true, lt-leb, not-true, eq-eqb, or_right, and_right, or_from, or_parts, and_from, false_from_ne_true, ltb-true, cond_both, or_left}
+pub use Rattle.std.proofs.lemmas.Bool.{false≢true, ne_eqb, and_parts, eqb-true, lt-leb, not-true, eq-eqb, or_right, and_right, or_from, or_parts, and_from, false_from_ne_true, cond_both, or_left}
 pub use Rattle.std.proofs.lemmas.Bool.Decides.{nat_tests}
 pub use Rattle.std.proofs.lemmas.Grind.{flat_map-append}
 pub use Rattle.std.proofs.lemmas.List.{map-append}
@@ -91,7 +91,45 @@ pub use Rattle.std.proofs.lemmas.List.Folds.{list_all-append, list_any-append, l
 pub use Rattle.std.proofs.lemmas.List.Sorted.{IsPermutation-sym, IsPermutation-trans, ranks_by}
 pub use Rattle.std.proofs.lemmas.Slice.Eq.{bytes_eq-Decides}
 pub use Rattle.std.proofs.lemmas.Str.{encodes-chars, encode_ascii, scalars-chars, encodes-IsAscii, chars_from_encodes, chars-encodes, encodes-append, len_utf8_bounds, chars-nil, IsUtf8-nil}
-pub use Rattle.std.specs.Char.{to_ascii_lowercase, is_ascii_whitespace, is_ascii_lowercase, len_utf8}
+pub use Rattle.std.specs.Char.{to_ascii_lowercase, is_ascii_whitespace, len_utf8}
 pub use Rattle.std.specs.List.{list_all, list_any, starts_with}
-pub use Rattle.std.specs.List.Sorted.{IsPermutation, IsSorted}
-pub use Rattle.std.specs.Prelude.{chars, encode_utf8, IsUtf8, nat_le, bytes_eq, codes, encode_utf8_all, ◌==◌, flat_map, slice_get, max, IsAscii, unwrap_or}
+pub use Rattle.std.proofs.Math.Seq.{take-length}
+pub use Rattle.htext.specs.declared.BadBytes.{BadBytes}
+pub use Rattle.hadopt.specs.Inserts.{added}
+pub use Rattle.hmodes.specs.Doctypes.{forces_quirks}
+pub use Rattle.hnodes.proofs.Counts.{times-hung}
+pub use Rattle.hnodes.proofs.ChildSpots.{child-spot, spot_among}
+pub use Rattle.hnodes.proofs.Families.{last_child-is}
+pub use Rattle.hnodes.proofs.Placed.{graft-made, what-placed}
+pub use Rattle.names.proofs.KnownTags.{different}
+pub use Rattle.std.specs.Cmp.{IsTotalOrder}
+pub use Rattle.std.proofs.lemmas.Cmp.{then_total, on_total, nat_cmp_total}
+pub use Rattle.std.proofs.lemmas.Map.Lookups.{exact_pairs, exact_unsigned}
+pub use Rattle.names.specs.CodeRows.{input_codes, token_codes, tree_codes}
+pub use Rattle.hmodes.specs.Reached.{Reached, after}
+pub use Rattle.hmodes.proofs.Between.{texts-all, reached-orderly}
+pub use Rattle.hmodes.proofs.Ends.{some-step}
+pub use Rattle.hmodes.proofs.OfTable.{steps-one}
+pub use Rattle.htoken.proofs.OneFront.{one_front, one_front_of_refused}
+pub use Rattle.hmarkup.proofs.Characters.{space_not_null}
+pub use Rattle.charref.specs.Table.{IsOver}
+pub use Rattle.charref.proofs.Keys.{longest-over}
+pub use Rattle.charref.proofs.Core.{has_found}
+pub use Rattle.charref.proofs.Naming.{is_key_of}
+pub use Rattle.hserialize.specs.declared.escaping.Setting.{Setting}
+pub use Rattle.htoken.proofs.RawEnds.{other_goes_on}
+pub use Rattle.hmarkup.specs.Doctype.{IsDoctype}
+pub use Rattle.hmarkup.specs.Comment.{IsComment, closed, closes_comment, closes_at_once}
+pub use Rattle.hmarkup.proofs.Marks.{before-avoids, before-here}
+pub use Rattle.htoken.specs.Tag.{IsTag, start_tag, end_tag}
+pub use Rattle.hmarkup.specs.CommentWalk.{backwards}
+pub use Rattle.hserialize.specs.declared.escaping.Escaping.TheVariants.{One}
+pub use Rattle.names.specs.declared.error.ErrorCode.TheVariants.{MissingWhitespaceBetweenAttributes}
+pub use Rattle.htext.proofs.Parts.{reads_of_text}
+pub use Rattle.htext.proofs.Texts.{goes_on}
+pub use Rattle.htoken.specs.Settled.{AreSettled}
+pub use Rattle.htoken.proofs.OneSpan.{some_span}
+pub use Rattle.hparse.specs.Into.{as_document}
+pub use Rattle.hparse.specs.Unrefused.{AreSettledIn, settled_text}
+pub use Rattle.hparse.proofs.Unrefused.{leads_on}
+pub use Rattle.hlaws.specs.Unrefused.{FrontsOfAnswered, FrontsOfParsed, RulesRefuse, ProfileRefuses}

@@ -12,7 +12,7 @@ pub fn plain_tokens()
 {}
 
 /// The tokens of a plain list of trees build it, from each quiet state of tree construction.
-#[tactic(auto, using(crate::proofs::PlainBuilds::law))]
+#[tactic(auto, using(crate::proofs::Back::plain_builds))]
 pub fn plain_builds()
     ensures { PlainBuilds }
 {}
@@ -24,7 +24,7 @@ pub fn plain_comes_back()
 {}
 
 /// A plain document, as it is written, is read as its own tokens.
-#[tactic(auto, using(crate::proofs::TokensDocument::tokens_law))]
+#[tactic(auto, using(crate::proofs::TokensWhole::document_tokens))]
 pub fn plain_document_tokens()
     ensures { PlainDocumentTokens }
 {}
@@ -36,7 +36,7 @@ pub fn plain_document_builds()
 {}
 
 /// A plain document comes back when what is written of it is parsed. So does one whose doctype has identifiers, but without them.
-#[tactic(auto, using(crate::proofs::DocumentBack::law, crate::proofs::DocumentBack::law_without))]
+#[tactic(auto, using(crate::proofs::Back::document_comes_back, crate::proofs::Back::document_comes_back_without))]
 pub fn plain_document_comes_back()
     ensures whole { PlainDocumentComesBack }
     ensures identifiers { ComesBackWithoutIdentifiers }
@@ -52,13 +52,13 @@ pub fn one_answer()
 /// The bytes of a document or of a fragment are parsed in exactly one way: a tree and the errors in their order, or what they are
 /// refused for, with the place. So however the bytes are cut into pieces, what a parser gives of them is the same, unless memory runs
 /// out.
-#[tactic(auto, using(crate::proofs::OneParse::one_parse))]
+#[tactic(auto, using(crate::proofs::OneAnswer::one_parse))]
 pub fn one_parse()
     ensures { OneParse }
 {}
 
 /// No run refuses a front of an input that is accepted, whatever was to follow.
-#[tactic(auto, using(crate::proofs::Unrefused::fronts_of_answered, crate::proofs::Unrefused::fronts_of_parsed))]
+#[tactic(auto, using(crate::proofs::OneAnswer::fronts_of_answered, crate::proofs::OneAnswer::fronts_of_parsed))]
 pub fn fronts_of_accepted()
     ensures tokens { FrontsOfAnswered }
     ensures tree { FrontsOfParsed }

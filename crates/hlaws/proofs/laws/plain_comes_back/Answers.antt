@@ -1,6 +1,5 @@
 use Rattle.hlaws.proofs.Back.{comes_back}
-use Rattle.hlaws.proofs.TokensWhole.{tokens_law}
 use Rattle.hlaws.proofs.laws.plain_comes_back.Goals as goal
 
 pub returns : goal.returns
-returns c = comes_back tokens_law
+returns c = comes_back
