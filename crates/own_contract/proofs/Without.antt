@@ -19,15 +19,15 @@ found n (tree b w kids rest) (one, (inside, after)) = cond_both (eqb b n) (tree 
 
 rest_of : (n : ℕ) (f : Forest ℕ) → HasNoScript f → HasNoScript (cut n f)
 rest_of n none h = tt
-rest_of n (tree b w kids rest) (one, (inside, after)) = cond_both (eqb b n) rest (tree b w (cut n kids) (cut n rest)) HasNoScript
-    (λ _. after) (λ _. (one, (rest_of n kids inside, rest_of n rest after)))
+rest_of n (tree b w kids rest) (one, (inside, after)) = cond_both (eqb b n) rest (tree b w (cut n kids) (cut n rest)) HasNoScript (λ _. after) (λ _.
+    (one, (rest_of n kids inside, rest_of n rest after)))
 
 -- where more children are put at the end of a node
 more_in : (p : ℕ) (t f : Forest ℕ) → HasNoScript t → HasNoScript f → HasNoScript (change_children p (λ kids. join kids t) f)
 more_in p t none k h = tt
 more_in p t (tree b w kids rest) k (one, (inside, after)) =
-    cond_both (eqb b p) (tree b w (join kids t) rest) (tree b w (change_children p (λ kids. join kids t) kids) (change_children p (λ kids. join kids t) rest)) HasNoScript
-    (λ _. (one, (joined kids t inside k, after))) (λ _. (one, (more_in p t kids k inside, more_in p t rest k after)))
+    cond_both (eqb b p) (tree b w (join kids t) rest) (tree b w (change_children p (λ kids. join kids t) kids) (change_children p (λ kids. join kids t) rest))
+    HasNoScript (λ _. (one, (joined kids t inside k, after))) (λ _. (one, (more_in p t kids k inside, more_in p t rest k after)))
 
 pub grafted : (n p : ℕ) (f : Forest ℕ) → HasNoScript f → HasNoScript (graft_last n p f)
 grafted n p f h = more_in p (tree_at n f) (cut n f) (found n f h) (rest_of n f h)
@@ -56,7 +56,7 @@ text_added : (cs : List ℕ) (p : ℕ) (t : Nodes ℕ) → HasNoScript t.trees �
 text_added [] p t h = h
 text_added (c ∷ cs) p t h = text_added cs p (add_char c (LastIn p) t) (char_added c p t (text_before (LastIn p) t.trees) h)
 
-pub text_put : {E : Type 0} (answer : Result (Unit {0}) E) (old new : Nodes ℕ) (cs : List ℕ) (p : ℕ) → OnOk answer (new ≡ add_chars cs (LastIn p) old) → OnErr answer (new ≡ old)
-    → HasNoScript old.trees → HasNoScript new.trees
+pub text_put : {E : Type 0} (answer : Result (Unit {0}) E) (old new : Nodes ℕ) (cs : List ℕ) (p : ℕ) → OnOk answer (new ≡ add_chars cs (LastIn p) old)
+    → OnErr answer (new ≡ old) → HasNoScript old.trees → HasNoScript new.trees
 text_put (Ok x) old new cs p ok err h = subst (λ (t : Nodes ℕ). HasNoScript t.trees) (sym ok) (text_added cs p old h)
 text_put (Err e) old new cs p ok err h = subst (λ (t : Nodes ℕ). HasNoScript t.trees) (sym err) h
