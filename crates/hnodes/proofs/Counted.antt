@@ -1,7 +1,7 @@
 -- What the edits keep: each node is in the forest once, and the document's tree comes first.
-use Rattle.hnodes.proofs.Names.{inl, inr, ◌≡◌, ◌≢◌, ℕ, suc, ◌+◌, ◌<◌, ◌≤◌, Bool, eqb, cond, refl, ◌∙◌, subst, arith, ne_eqb, le-leb, lt-leb, What, document, Forest, none, tree, times, join, tree_at, cut, children_of, change_children, change_what, put_before, AreCounted, place_node, graft, move_all, Place, LastIn, Before, cases_Bool}
+use Rattle.hnodes.proofs.Names.{inl, inr, ◌≡◌, ◌≢◌, ℕ, ◌+◌, ◌<◌, ◌≤◌, eqb, refl, ◌∙◌, arith, ne_eqb, What, document, Forest, none, tree, times, join, tree_at, cut, children_of, change_children, change_what, put_before, AreCounted, place_node, graft, move_all, Place, LastIn, Before, cases_Bool}
 use Rattle.hnodes.proofs.Forests.{times-join, times-cut, times-emptied, children-apart}
-use Rattle.hnodes.proofs.Whats.{times-what}
+use Rattle.hnodes.proofs.Linked.{times-what}
 use Rattle.hnodes.proofs.Counts.{emptied, times-hung, times-put, times-emptied-apart}
 use Rattle.hnodes.proofs.Deep.{deep, deep-lower, deep-upper, children-deep}
 
@@ -15,7 +15,8 @@ module _ {N : Type 0} where
   Begins f = (kids : Forest N) × (rest : Forest N) × (f ≡ tree 0 document kids rest)
 
   begins-change : (p : ℕ) (g : Forest N → Forest N) (f : Forest N) → Begins f → Begins (change_children p g f)
-  begins-change p g f (kids, rest, is) = rw is (elim (cases_Bool (eqb 0 p)) [ inl e ↦ rw e (g kids, rest, refl) | inr e ↦ rw e (change_children p g kids, change_children p g rest, refl) ])
+  begins-change p g f (kids, rest, is) = rw is (elim (cases_Bool (eqb 0 p))
+      [ inl e ↦ rw e (g kids, rest, refl) | inr e ↦ rw e (change_children p g kids, change_children p g rest, refl) ])
 
   begins-cut : (n : ℕ) (f : Forest N) → 0 < n → Begins f → Begins (cut n f)
   begins-cut n f h (kids, rest, is) = rw (is, ne_eqb 0 n (λ e. omega arith)) (cut n kids, cut n rest, refl)
@@ -27,17 +28,17 @@ module _ {N : Type 0} where
   begins-join t f (kids, rest, is) = rw is (kids, join rest t, refl)
 
   begins-what : (n : ℕ) (g : What N → What N) (f : Forest N) → g document ≡ document → Begins f → Begins (change_what n g f)
-  begins-what n g f same (kids, rest, is) = rw is (change_what n g kids, change_what n g rest, elim (cases_Bool (eqb 0 n)) [ inl e ↦ rw (e, same) refl | inr e ↦ rw e refl ])
+  begins-what n g f same (kids, rest, is) = rw is (change_what n g kids, change_what n g rest, grind arith)
 
   module _ (made : ℕ) (f : Forest N) (counted : AreCounted made f) where
     pub at-most : (x : ℕ) → times x f ≤ 1
     at-most x = grind arith
 
     pub is-there : (x : ℕ) → x < made → times x f ≡ 1
-    is-there x h = rw (counted.once x, le-leb (suc x) made (omega arith)) refl
+    is-there x h = grind (arith, counted.once x)
 
     pub not-there : (x : ℕ) → made ≤ x → times x f ≡ 0
-    not-there x h = rw (counted.once x, lt-leb (suc x) made (omega arith)) refl
+    not-there x h = grind (arith, counted.once x)
 
     pub was-made : (x : ℕ) → 0 < times x f → x < made
     was-made x h = grind arith
@@ -57,16 +58,10 @@ module _ {N : Type 0} where
     below-document x h = grind (arith, children-deep, children-apart)
 
     pub in-document : (x : ℕ) → 0 < deep x 0 f → 0 < x → times x (children_of 0 f) ≡ 1
-    in-document x h pos = go counted.begins
-      where
-        go : Begins f → times x (children_of 0 f) ≡ 1
-        go (kids, rest, is) =
-            let one : 1 + (times 0 kids + times 0 rest) ≤ 1 = subst (λ (g : Forest N). times 0 g ≤ 1) is (at-most 0) in
-            let some : 0 < (cond (eqb 0 x) 1 0 + times x kids) + (deep x 0 kids + deep x 0 rest) = subst (λ (g : Forest N). 0 < deep x 0 g) is h in
-            let some' : 0 < (0 + times x kids) + (deep x 0 kids + deep x 0 rest) = subst (λ (u : Bool). 0 < (cond u 1 0 + times x kids) + (deep x 0 kids + deep x 0 rest)) (ne_eqb 0 x (λ e. omega arith)) some in
-            let few : cond (eqb 0 x) 1 0 + (times x kids + times x rest) ≤ 1 = subst (λ (g : Forest N). times x g ≤ 1) is (at-most x) in
-            let few' : 0 + (times x kids + times x rest) ≤ 1 = subst (λ (u : Bool). cond u 1 0 + (times x kids + times x rest) ≤ 1) (ne_eqb 0 x (λ e. omega arith)) few in
-            rw is (omega (arith, deep-upper x 0 kids (omega arith), deep-upper x 0 rest (omega arith)))
+    in-document x h pos = go counted.begins where
+      go : Begins f → times x (children_of 0 f) ≡ 1
+      go (kids, rest, is) = let a = rw is at (at-most 0) in let b = rw is at (at-most x) in let d = rw is at h in
+          rw is (grind (arith, deep-upper x 0 kids, deep-upper x 0 rest))
 
   -- a new node is there once
   pub times-new : (new : ℕ) (w : What N) (f : Forest N) → times new f ≡ 0 → times new (join f (tree new w none none)) ≡ 1
@@ -77,7 +72,8 @@ module _ {N : Type 0} where
   counted-new made w f s = record { once = λ x. grind (arith, times-join); begins = begins-join (tree made w none none) f s.begins }
 
   -- a node is put at a place
-  pub counted-graft : (made n : ℕ) (place : Place) (f : Forest N) → AreCounted made f → 0 < n → NotBefore 0 place → times (place_node place) f ≡ 1 → times (place_node place) (tree_at n f) ≡ 0 → AreCounted made (graft n place f)
+  pub counted-graft : (made n : ℕ) (place : Place) (f : Forest N) → AreCounted made f → 0 < n → NotBefore 0 place → times (place_node place) f ≡ 1
+      → times (place_node place) (tree_at n f) ≡ 0 → AreCounted made (graft n place f)
   counted-graft made n (LastIn p) f s h b one out = record {
     once = λ x. times-hung x p (tree_at n f) (cut n f) (omega (arith, times-cut p n f)) ∙ times-cut x n f ∙ s.once x;
     begins = begins-change p (λ kids. join kids (tree_at n f)) (cut n f) (begins-cut n f h s.begins);
@@ -88,7 +84,8 @@ module _ {N : Type 0} where
   }
 
   -- the children of a node go into another
-  pub counted-move : (made m p : ℕ) (f : Forest N) → AreCounted made f → times m f ≡ 1 → times p f ≡ 1 → times p (children_of m f) ≡ 0 → AreCounted made (move_all m p f)
+  pub counted-move : (made m p : ℕ) (f : Forest N) → AreCounted made f → times m f ≡ 1 → times p f ≡ 1 → times p (children_of m f) ≡ 0
+      → AreCounted made (move_all m p f)
   counted-move made m p f s one to out = record {
     once = λ x. times-hung x p (children_of m f) (emptied m f) (times-emptied-apart p m f out ∙ to) ∙ times-emptied x m f one ∙ s.once x;
     begins = begins-change p (λ kids. join kids (children_of m f)) (emptied m f) (begins-change m (λ _. none) f s.begins);

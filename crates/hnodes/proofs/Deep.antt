@@ -39,4 +39,5 @@ module _ {N : Type 0} where
   -- what is inside m is inside all that m is inside of
   pub deep-trans : (x m y : ℕ) (f : Forest N) → times m f ≤ 1 → 0 < deep m y f → deep x m f ≤ deep x y f
   deep-trans x m y none h in_y = omega arith
-  deep-trans x m y (tree b w kids rest) h in_y = grind (arith, deep-trans x m y kids, deep-trans x m y rest, deep-lower, deep-upper, deep-is x m kids, times-cut x m kids)
+  deep-trans x m y (tree b w kids rest) h in_y = grind
+      (arith, deep-trans x m y kids, deep-trans x m y rest, deep-lower, deep-upper, deep-is x m kids, times-cut x m kids)

@@ -22,7 +22,8 @@ module _ {N : Type 0} where
   -- nothing changes for a node that is not in them
   pub deep-hung-apart : (x y p : ℕ) (t f : Forest N) → times x t ≡ 0 → deep x y (hung p t f) ≡ deep x y f
   deep-hung-apart x y p t none h = refl
-  deep-hung-apart x y p t (tree b w kids rest) h = grind (arith, deep-hung-apart x y p t kids h, deep-hung-apart x y p t rest h, times-join, deep-join, deep-lower, times-hung-apart)
+  deep-hung-apart x y p t (tree b w kids rest) h = grind
+      (arith, deep-hung-apart x y p t kids h, deep-hung-apart x y p t rest h, times-join, deep-join, deep-lower, times-hung-apart)
 
   -- where p is outside of y, their nodes are inside y only where they were
   pub deep-hung : (x y p : ℕ) (t f : Forest N) → times p f ≤ 1 → deep p y f ≡ 0 → deep x y (hung p t f) ≤ deep x y f + deep x y t
@@ -32,13 +33,15 @@ module _ {N : Type 0} where
   -- where p is inside y, so are their nodes
   pub deep-hung-below : (x y p : ℕ) (t f : Forest N) → times p f ≤ 1 → 0 < deep p y f → times x t ≤ deep x y (hung p t f)
   deep-hung-below x y p t none h in_y = absurd (omega arith)
-  deep-hung-below x y p t (tree b w kids rest) h in_y = grind (arith, deep-hung-below x y p t kids, deep-hung-below x y p t rest, times-join, deep-lower, times-hung)
+  deep-hung-below x y p t (tree b w kids rest) h in_y = grind
+      (arith, deep-hung-below x y p t kids, deep-hung-below x y p t rest, times-join, deep-lower, times-hung)
 
   -- Trees come right before a node s.
 
   pub deep-put-apart : (x y s : ℕ) (t f : Forest N) → times x t ≡ 0 → deep x y (put_before s t f) ≡ deep x y f
   deep-put-apart x y s t none h = refl
-  deep-put-apart x y s t (tree b w kids rest) h = grind (arith, deep-put-apart x y s t kids h, deep-put-apart x y s t rest h, deep-join, deep-lower, times-put-apart)
+  deep-put-apart x y s t (tree b w kids rest) h = grind
+      (arith, deep-put-apart x y s t kids h, deep-put-apart x y s t rest h, deep-join, deep-lower, times-put-apart)
 
   pub deep-put : (x y s : ℕ) (t f : Forest N) → times s f ≤ 1 → deep s y f ≡ 0 → deep x y (put_before s t f) ≤ deep x y f + deep x y t
   deep-put x y s t none h out = omega arith
@@ -56,4 +59,5 @@ module _ {N : Type 0} where
 
   pub deep-emptied-apart : (x y m : ℕ) (f : Forest N) → times x (children_of m f) ≡ 0 → deep x y (emptied m f) ≡ deep x y f
   deep-emptied-apart x y m none h = refl
-  deep-emptied-apart x y m (tree b w kids rest) h = grind (arith, deep-emptied-apart x y m kids, deep-emptied-apart x y m rest, deep-lower, times-join, times-emptied-apart)
+  deep-emptied-apart x y m (tree b w kids rest) h = grind
+      (arith, deep-emptied-apart x y m kids, deep-emptied-apart x y m rest, deep-lower, times-join, times-emptied-apart)

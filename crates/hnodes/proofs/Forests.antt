@@ -1,6 +1,5 @@
 -- Laws of forests.
-use Rattle.hnodes.proofs.Names.{◌≡◌, ℕ, ◌+◌, eqb, List, ◌∷◌, ◌++◌, Option, Some, refl, ap, arith, Forest, none, tree, roots, size, times, join, tree_at, cut, children_of, change_children, first_or, last_or, None, option_map, spot_below, spot_of, either_of, Look, Linked, row_at, ◌∙◌, nat_tests, not, ◌≤◌}
-use Rattle.std.specs.List.{filter}
+use Rattle.hnodes.proofs.Names.{◌≡◌, ℕ, ◌+◌, eqb, List, ◌∷◌, ◌++◌, Option, Some, refl, ap, arith, Forest, none, tree, roots, size, times, join, tree_at, cut, children_of, change_children, first_or, last_or, None, option_map, spot_below, spot_of, either_of, Look, Linked, row_at, ◌∙◌, nat_tests, not, ◌≤◌, filter}
 
 pub some_inj : {A : Type 0} {a b : A} → Some a ≡ Some b → a ≡ b
 some_inj e = cc
@@ -57,7 +56,8 @@ module _ {N : Type 0} where
 
   pub children_of-changed : (p : ℕ) (g : Forest N → Forest N) (f : Forest N) → times p f ≡ 1 → children_of p (change_children p g f) ≡ g (children_of p f)
   children_of-changed p g none h = absurd (omega arith)
-  children_of-changed p g (tree b w kids rest) h = grind (arith, children_of-changed p g kids, children_of-changed p g rest, change_children-absent, children_of-absent, join-none)
+  children_of-changed p g (tree b w kids rest) h = grind
+      (arith, children_of-changed p g kids, children_of-changed p g rest, change_children-absent, children_of-absent, join-none)
 
   -- what is cut and what is left are all there was
   pub times-cut : (m n : ℕ) (f : Forest N) → times m (cut n f) + times m (tree_at n f) ≡ times m f
@@ -84,7 +84,8 @@ module _ {N : Type 0} where
   -- what is changed under q, and what was there, count against each other
   pub times-changed : (c q : ℕ) (Y f : Forest N) → times q f ≡ 1 → times c (change_children q (λ _. Y) f) + times c (children_of q f) ≡ times c f + times c Y
   times-changed c q Y none h = absurd (omega arith)
-  times-changed c q Y (tree b w kids rest) h = grind (arith, times-changed c q Y kids, times-changed c q Y rest, children_of-absent, change_children-absent, join-none)
+  times-changed c q Y (tree b w kids rest) h = grind
+      (arith, times-changed c q Y kids, times-changed c q Y rest, children_of-absent, change_children-absent, join-none)
 
   pub times-emptied : (c q : ℕ) (f : Forest N) → times q f ≡ 1 → times c (change_children q (λ _. none) f) + times c (children_of q f) ≡ times c f
   times-emptied c q f h = omega (arith, times-changed c q none f h)
@@ -113,9 +114,11 @@ module _ {N : Type 0} where
   spot_below-absent n p x none h = refl
   spot_below-absent n p x (tree b w kids rest) h = grind (arith, spot_below-absent n (Some b) None kids, spot_below-absent n p (Some b) rest)
 
-  pub Linked-spot : (look : Look N) (n q : ℕ) (x : Option ℕ) (f : Forest N) → times n f ≡ 1 → Linked look (Some q) x f None → look n ≡ option_map row_at (spot_below n (Some q) x f)
+  pub Linked-spot : (look : Look N) (n q : ℕ) (x : Option ℕ) (f : Forest N) → times n f ≡ 1 → Linked look (Some q) x f None
+      → look n ≡ option_map row_at (spot_below n (Some q) x f)
   Linked-spot look n q x none h s = absurd (omega arith)
-  Linked-spot look n q x (tree b w kids rest) h s = grind (arith, Linked-spot look n b None kids, Linked-spot look n q (Some b) rest, spot_below-absent, nat_tests)
+  Linked-spot look n q x (tree b w kids rest) h s = grind
+      (arith, Linked-spot look n b None kids, Linked-spot look n q (Some b) rest, spot_below-absent, nat_tests)
 
   pub spot_of-absent : (n : ℕ) (f : Forest N) → times n f ≡ 0 → spot_of n f ≡ None
   spot_of-absent n none h = refl
@@ -123,7 +126,8 @@ module _ {N : Type 0} where
 
   pub Loose-spot : (look : Look N) (x : Option ℕ) (n : ℕ) (f : Forest N) → times n f ≡ 1 → Linked look None x f None → look n ≡ option_map row_at (spot_of n f)
   Loose-spot look x n none h s = absurd (omega arith)
-  Loose-spot look x n (tree b w kids rest) h s = grind (arith, Loose-spot look (Some b) n rest, Linked-spot look n b None kids, nat_tests, spot_of-absent, spot_below-absent, either-none)
+  Loose-spot look x n (tree b w kids rest) h s = grind
+      (arith, Loose-spot look (Some b) n rest, Linked-spot look n b None kids, nat_tests, spot_of-absent, spot_below-absent, either-none)
 
 -- in forests one after another
 either-assoc : {A : Type 0} (x y z : Option A) → either_of x (either_of y z) ≡ either_of (either_of x y) z
@@ -137,5 +141,5 @@ module _ {N : Type 0} where
 
   pub spot_of-join : (n : ℕ) (f g : Forest N) → spot_of n (join f g) ≡ either_of (spot_of n f) (spot_of n g)
   spot_of-join n none g = refl
-  spot_of-join n (tree b w kids rest) g =
-      ap (either_of (spot_below n None None (tree b w kids none))) (spot_of-join n rest g) ∙ either-assoc (spot_below n None None (tree b w kids none)) (spot_of n rest) (spot_of n g)
+  spot_of-join n (tree b w kids rest) g = ap (either_of (spot_below n None None (tree b w kids none))) (spot_of-join n rest g)
+      ∙ either-assoc (spot_below n None None (tree b w kids none)) (spot_of n rest) (spot_of n g)

@@ -1,8 +1,7 @@
 -- A list and its image, where a test of the image is a test of the list.
-use Rattle.hnodes.proofs.IndexNames.{arith, ◌≡◌, ℕ, ◌+◌, zero, suc, Bool, cond, not, ◌&&◌, ◌||◌, List, [], ◌∷◌, map, Option, Some, None, refl, list_any, list_all, length-map, before, after, without, changed, item_put_before, changed_at}
-use Rattle.std.specs.Prelude.{if◌then◌else◌, filter, find, nat_lt, position}
-use Rattle.std.specs.List.{prefix_len}
-use Rattle.std.specs.Option.{option_map}
+use Rattle.hnodes.proofs.IndexNames.{arith, ◌≡◌, ℕ, ◌+◌, zero, suc, Bool, cond, not, ◌&&◌, ◌||◌, List, [], ◌∷◌, map, refl, list_any, list_all, length-map, before, after, without, changed, item_put_before, changed_at}
+use Rattle.hnodes.proofs.Names.{find, position, prefix_len, option_map}
+use Rattle.std.specs.Prelude.{filter}
 
 module _ {X Y : Type 0} (h : X → Y) (p : X → Bool) (q : Y → Bool) (e : (x : X) → q (h x) ≡ p x) where
   pub before-map : (xs : List X) → before q (map h xs) ≡ map h (before p xs)
@@ -47,13 +46,11 @@ module _ {X Y : Type 0} (h : X → Y) (p : X → Bool) (q : Y → Bool) (e : (x 
   not_prefix-map (x ∷ xs) = λ i. cond (not (e x i)) (1 + not_prefix-map xs i) 0
 
   pub position-map : (xs : List X) → position q (map h xs) ≡ position p xs
-  position-map xs = λ i. at (not_prefix-map xs i) (length-map xs h i)
-    where
-      at : ℕ → ℕ → Option ℕ
-      at k len = if nat_lt k len then Some k else None
+  position-map xs = grind (arith, not_prefix-map xs, length-map xs h)
 
 module _ {X Y : Type 0} (h : X → Y) where
-  pub changed_at-map : (f : X → X) (f' : Y → Y) → ((x : X) → f' (h x) ≡ h (f x)) → (n : ℕ) (xs : List X) → changed_at n f' (map h xs) ≡ map h (changed_at n f xs)
+  pub changed_at-map : (f : X → X) (f' : Y → Y) → ((x : X) → f' (h x) ≡ h (f x)) → (n : ℕ) (xs : List X)
+      → changed_at n f' (map h xs) ≡ map h (changed_at n f xs)
   changed_at-map f f' c n [] = refl
   changed_at-map f f' c zero (x ∷ xs) = λ i. c x i ∷ map h xs
   changed_at-map f f' c (suc n) (x ∷ xs) = λ i. h x ∷ changed_at-map f f' c n xs i

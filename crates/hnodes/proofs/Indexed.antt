@@ -1,19 +1,7 @@
 -- The names of attributes: where one is, and whether they differ.
-use Rattle.hnodes.proofs.Names.{◌≡◌, ℕ, zero, suc, ◌-◌, ◌<◌, ◌≤◌, Bool, true, cond, ltb, nat_eq, List, [], ◌∷◌, length, length-drop, map, take, drop, refl, sym, ◌∙◌, ap, arith, lt-ltb, map-append, take_all, list_any-append, list_any, Attr, Attribute, attr_numbers, attribute_of, ◌+◌, false, not, eqb, ◌++◌, get_or, subst, Vec, Global, IsTrue, names_differ, names_of, nat_tests}
+use Rattle.hnodes.proofs.Names.{◌≡◌, ℕ, zero, suc, ◌-◌, ◌<◌, ◌≤◌, Bool, true, cond, ltb, nat_eq, List, [], ◌∷◌, length, length-drop, map, take, drop, refl, sym, ◌∙◌, ap, arith, lt-ltb, map-append, take_all, list_any-append, list_any, Attr, Attribute, attr_numbers, attribute_of, ◌+◌, false, not, eqb, ◌++◌, get_or, subst, Vec, Global, IsTrue, names_differ, names_of, nat_tests, ◌==◌, ◌||◌, ◌↔◌, eqb-suc-suc, le-ltb, and_parts, not-true, false_from_ne_true, false≢true, ltb-true, length-map, length-take, take-append-drop, take-append-le, last_up, IsPermutation-sym, IsDistinct-IsPermutation, IsDistinct-cons, IsDistinct-head, IsDistinct-tail, IsDistinct-from_sorted, IsStrictlyIncreasing-from_distinct, sorted_from_strictly_increasing, unsigned_tied, AllByRecursion, IsAllAdjacentAnswer, IsDistinct, IsNonDecreasing, IsPermutation, IsStrictlyIncreasing, nat_cmp, ◌&&◌, AreNumbered, inside_attributes}
 use Rattle.hnodes.specs.declared.attributes.Indexed.TheInside.{Inside}
-use Rattle.std.proofs.Common.{◌==◌, ◌||◌, ◌↔◌}
-use Rattle.std.proofs.Math.Dec.{eqb-suc-suc}
-use Rattle.std.proofs.lemmas.Bool.{le-ltb, and_parts, not-true, false_from_ne_true, false≢true, ltb-true}
-use Rattle.std.proofs.lemmas.List.{length-map, length-take, take-append-drop, take-append-le}
-use Rattle.hnodes.specs.IndexedList.{last_up}
-use Rattle.std.proofs.lemmas.List.Sorted.{IsPermutation-sym}
-use Rattle.std.proofs.lemmas.Map.Keys.{IsDistinct-IsPermutation, IsDistinct-cons, IsDistinct-head, IsDistinct-tail, IsDistinct-from_sorted, IsStrictlyIncreasing-from_distinct, sorted_from_strictly_increasing}
-use Rattle.std.specs.Cmp.{unsigned_tied}
-use Rattle.std.specs.List.{AllByRecursion, IsAllAdjacentAnswer, IsDistinct}
-use Rattle.std.specs.List.Sorted.{IsNonDecreasing, IsPermutation, IsStrictlyIncreasing}
-use Rattle.std.specs.Ordering.{nat_cmp}
-use Rattle.std.specs.Prelude.{◌&&◌, ◌||◌, ltb}
-use Rattle.hnodes.specs.Numbered.{AreNumbered, inside_attributes}
+use Rattle.std.specs.Prelude.{◌||◌, ltb}
 
 module _ (s : ℕ → Bool) where
   -- where it is with a number more at the front, which is sought or not
@@ -27,53 +15,53 @@ module _ (s : ℕ → Bool) where
 
   last-any : (xs : List ℕ) → ltb 0 (last_up s xs (length xs)) ≡ list_any s xs
   last-any [] = refl
-  last-any (x ∷ xs) = ap (ltb 0) (up-front x xs (length xs)) ∙ go (s x) (last_up s xs (length xs)) (last-any xs)
-    where
-      go : (v : Bool) (n : ℕ) → ltb 0 n ≡ list_any s xs → ltb 0 (up v n) ≡ (v || list_any s xs)
-      go v n e = grind (arith, nat_tests)
+  last-any (x ∷ xs) = ap (ltb 0) (up-front x xs (length xs)) ∙ go (s x) (last_up s xs (length xs)) (last-any xs) where
+    go : (v : Bool) (n : ℕ) → ltb 0 n ≡ list_any s xs → ltb 0 (up v n) ≡ (v || list_any s xs)
+    go v n e = grind (arith, nat_tests)
 
 any-named : (name : ℕ) (attrs : List Attr) → list_any (λ k. k == suc (suc name)) (attr_numbers attrs) ≡ list_any (λ a. nat_eq a.0 name) (map attribute_of attrs)
 any-named name [] = refl
-any-named name (a ∷ attrs) =
-    λ i. (eqb-suc-suc (suc a.name) (suc name) ∙ eqb-suc-suc a.name name) i || any-named name attrs i
+any-named name (a ∷ attrs) = λ i. (eqb-suc-suc (suc a.name) (suc name) ∙ eqb-suc-suc a.name name) i || any-named name attrs i
 
 -- a search of the attributes
 pub named-is : (names : List ℕ) (attrs : List Attr) (number name : ℕ) → names ≡ attr_numbers attrs → number ≡ suc (suc name)
     → ltb 0 (last_up (λ k. k == number) names (length names)) ≡ list_any (λ a. nat_eq a.0 name) (map attribute_of attrs)
-named-is names attrs number name same is = (λ i. ltb 0 (last_up (λ k. k == is i) (same i) (length (same i)))) ∙ last-any (λ k. k == suc (suc name)) (attr_numbers attrs) ∙ any-named name attrs
+named-is names attrs number name same is =
+    (λ i. ltb 0 (last_up (λ k. k == is i) (same i) (length (same i)))) ∙ last-any (λ k. k == suc (suc name)) (attr_numbers attrs) ∙ any-named name attrs
 
 -- no more are indexed than there are
 pub within : (names : List ℕ) (attrs : List Attr) → names ≡ attr_numbers (take (length names) attrs) → length names ≤ length attrs
-within names attrs first = omega (arith, ap length first, length-map (take (length names) attrs) (λ (a : Attr). suc (suc a.name)), length-take (length names) attrs)
+within names attrs first = omega
+    (arith, ap length first, length-map (take (length names) attrs) (λ (a : Attr). suc (suc a.name)), length-take (length names) attrs)
 
 -- an attribute of a name is among the first or the rest
 found-is : (names : List ℕ) (attrs : List Attr) (number name : ℕ) → names ≡ attr_numbers (take (length names) attrs) → number ≡ suc (suc name)
-    → (ltb 0 (last_up (λ k. k == number) names (length names)) || list_any (λ a. nat_eq a.0 name) (map attribute_of (take (length attrs - length names) (drop (length names) attrs))))
+    → (ltb 0 (last_up (λ k. k == number) names (length names))
+    || list_any (λ a. nat_eq a.0 name) (map attribute_of (take (length attrs - length names) (drop (length names) attrs))))
     ≡ list_any (λ a. nat_eq a.0 name) (map attribute_of attrs)
 found-is names attrs number name first is =
-    (λ i. named-is names front number name first is i
-    || ap (λ (l : List Attr). list_any (λ a. nat_eq a.0 name) (map attribute_of l)) (take_all (length attrs - length names) rest (omega (arith, length-drop (length names) attrs))) i)
-    ∙ sym (list_any-append (λ (a : Attribute ℕ). nat_eq a.0 name) (map attribute_of front) (map attribute_of rest)) ∙ ap (list_any (λ a. nat_eq a.0 name)) (sym (map-append attribute_of front rest))
-    ∙ ap (λ (l : List Attr). list_any (λ a. nat_eq a.0 name) (map attribute_of l)) (take-append-drop (length names) attrs)
-  where
-    front : List Attr
-    front = take (length names) attrs
+    let all = take_all (length attrs - length names) (drop (length names) attrs) (omega (arith, length-drop (length names) attrs)) in
+    let front = named-is names (take (length names) attrs) number name first is in
+    let both = list_any-append (λ (a : Attribute ℕ). nat_eq a.0 name) (map attribute_of (take (length names) attrs))
+    (map attribute_of (drop (length names) attrs)) in
+    let whole = map-append attribute_of (take (length names) attrs) (drop (length names) attrs) in
+    rw (all, front, ← both, ← whole, take-append-drop (length names) attrs) refl
 
-    rest : List Attr
-    rest = drop (length names) attrs
+pub found_first : (names : List ℕ) (attrs : List Attr) (number name last : ℕ) → names ≡ attr_numbers (take (length names) attrs) → number ≡ suc (suc name)
+    → last ≡ last_up (λ k. k == number) names (length names) → 0 < last → ltb 0 last ≡ list_any (λ a. nat_eq a.0 name) (map attribute_of attrs)
+found_first names attrs number name last first is at some = let yes : ltb 0 last ≡ true = lt-ltb 0 last some in
+    yes ∙ (λ i.
+    (sym yes ∙ ap (ltb 0) at) i || list_any (λ a. nat_eq a.0 name) (map attribute_of (take (length attrs - length names) (drop (length names) attrs))))
+    ∙ found-is names attrs number name first is
 
-pub found_first : (names : List ℕ) (attrs : List Attr) (number name last : ℕ) → names ≡ attr_numbers (take (length names) attrs) → number ≡ suc (suc name) → last ≡ last_up (λ k. k == number) names (length names) → 0 < last
-    → ltb 0 last ≡ list_any (λ a. nat_eq a.0 name) (map attribute_of attrs)
-found_first names attrs number name last first is at some =
-    let yes : ltb 0 last ≡ true = lt-ltb 0 last some in
-    yes ∙ (λ i. (sym yes ∙ ap (ltb 0) at) i || list_any (λ a. nat_eq a.0 name) (map attribute_of (take (length attrs - length names) (drop (length names) attrs)))) ∙ found-is names attrs number name first is
-
-pub found_rest : (names : List ℕ) (attrs lent : List Attr) (number name last len : ℕ) (u : Bool) → names ≡ attr_numbers (take (length names) attrs) → number ≡ suc (suc name) → last ≡ last_up (λ k. k == number) names (length names) → last ≤ 0
-    → lent ≡ attrs → len ≡ length names → u ≡ list_any (λ a. nat_eq a.0 name) (map attribute_of (take (length lent - len) (drop len lent))) → u ≡ list_any (λ a. nat_eq a.0 name) (map attribute_of attrs)
+pub found_rest : (names : List ℕ) (attrs lent : List Attr) (number name last len : ℕ) (u : Bool) → names ≡ attr_numbers (take (length names) attrs)
+    → number ≡ suc (suc name) → last ≡ last_up (λ k. k == number) names (length names) → last ≤ 0 → lent ≡ attrs → len ≡ length names
+    → u ≡ list_any (λ a. nat_eq a.0 name) (map attribute_of (take (length lent - len) (drop len lent)))
+    → u ≡ list_any (λ a. nat_eq a.0 name) (map attribute_of attrs)
 found_rest names attrs lent number name last len u first is at none same long test =
     test ∙ (λ i. list_any (λ a. nat_eq a.0 name) (map attribute_of (take (length (same i) - long i) (drop (long i) (same i)))))
-    ∙ ap (λ v. v || list_any (λ a. nat_eq a.0 name) (map attribute_of (take (length attrs - length names) (drop (length names) attrs)))) (sym (le-ltb 0 last none) ∙ ap (ltb 0) at)
-    ∙ found-is names attrs number name first is
+    ∙ ap (λ v. v || list_any (λ a. nat_eq a.0 name) (map attribute_of (take (length attrs - length names) (drop (length names) attrs))))
+    (sym (le-ltb 0 last none) ∙ ap (ltb 0) at) ∙ found-is names attrs number name first is
 
 -- Attributes whose names differ, and their names in ascending order.
 
@@ -81,18 +69,15 @@ flips : (x y : ℕ) → nat_eq x y ≡ nat_eq y x
 flips x y = grind arith
 
 -- an attribute more at the end
-pub differ-last : (attrs : List (Attribute ℕ)) (a : Attribute ℕ) → names_differ nat_eq (attrs ++ a ∷ []) ≡ (names_differ nat_eq attrs && not (list_any (λ b. nat_eq b.0 a.0) attrs))
+pub differ-last : (attrs : List (Attribute ℕ)) (a : Attribute ℕ)
+    → names_differ nat_eq (attrs ++ a ∷ []) ≡ (names_differ nat_eq attrs && not (list_any (λ b. nat_eq b.0 a.0) attrs))
 differ-last [] a = refl
-differ-last (x ∷ xs) a =
-    (λ i. not ((list_any-append (λ b. nat_eq b.0 x.0) xs (a ∷ []) ∙ ap (λ v. list_any (λ b. nat_eq b.0 x.0) xs || (v || false)) (flips a.0 x.0)) i) && differ-last xs a i)
-    ∙ go (list_any (λ b. nat_eq b.0 x.0) xs) (names_differ nat_eq xs) (nat_eq x.0 a.0) (list_any (λ b. nat_eq b.0 a.0) xs)
-  where
-    go : (u d v w : Bool) → (not (u || (v || false)) && (d && not w)) ≡ ((not u && d) && not (v || w))
-    go u d v w = grind arith
+differ-last (x ∷ xs) a = grind (arith, differ-last xs a, flips a.0 x.0, list_any-append (λ b. nat_eq b.0 x.0) xs (a ∷ []))
 
 -- numbers that rise differ
 risen : (names : List ℕ) → IsStrictlyIncreasing names → IsDistinct eqb names
-risen names up = subst (λ (e : ℕ → ℕ → Bool). IsDistinct e names) (λ i x y. unsigned_tied x y i) (IsDistinct-from_sorted nat_cmp names (sorted_from_strictly_increasing names up))
+risen names up = subst (λ (e : ℕ → ℕ → Bool). IsDistinct e names) (λ i x y. unsigned_tied x y i)
+    (IsDistinct-from_sorted nat_cmp names (sorted_from_strictly_increasing names up))
 
 -- whether the name of an attribute is one of these
 abbrev among : (n : ℕ) (attrs : List (Attribute ℕ)) → Bool
@@ -104,17 +89,17 @@ others n (a ∷ attrs) h = grind (arith, others n attrs)
 
 no-other : (n : ℕ) (attrs : List (Attribute ℕ)) → AllByRecursion (λ m. eqb n m ≡ false) (names_of attrs) → among n attrs ≡ false
 no-other n [] h = refl
-no-other n (a ∷ attrs) h = (λ i. (flips a.0 n ∙ h.0) i || among n attrs) ∙ no-other n attrs h.1
+no-other n (a ∷ attrs) h = grind (arith, no-other n attrs, flips a.0 n)
 
 distinct : (attrs : List (Attribute ℕ)) → names_differ nat_eq attrs ≡ true → IsDistinct eqb (names_of attrs)
 distinct [] h = risen [] (λ k p. absurd (omega (arith, p)))
-distinct (a ∷ attrs) h =
-    let parts = and_parts (not (among a.0 attrs)) (names_differ nat_eq attrs) h in
+distinct (a ∷ attrs) h = let parts = and_parts (not (among a.0 attrs)) (names_differ nat_eq attrs) h in
     IsDistinct-cons eqb a.0 (names_of attrs) (others a.0 attrs (not-true (among a.0 attrs) parts.0)) (distinct attrs parts.1)
 
 differing : (attrs : List (Attribute ℕ)) → IsDistinct eqb (names_of attrs) → names_differ nat_eq attrs ≡ true
 differing [] h = refl
-differing (a ∷ attrs) h = λ i. not (no-other a.0 attrs (IsDistinct-head eqb a.0 (names_of attrs) h) i) && differing attrs (IsDistinct-tail eqb a.0 (names_of attrs) h) i
+differing (a ∷ attrs) h =
+    λ i. not (no-other a.0 attrs (IsDistinct-head eqb a.0 (names_of attrs) h) i) && differing attrs (IsDistinct-tail eqb a.0 (names_of attrs) h) i
 
 -- whether each number is less than the next
 pub rising : (xs : List ℕ) (r : Bool) → IsAllAdjacentAnswer (λ x y b. b ≡ ltb x y) xs r → IsTrue r ↔ IsStrictlyIncreasing xs
@@ -125,15 +110,20 @@ rising xs false h = (
 )
 
 -- names differ if they rise where they are in ascending order
-pub differ-is : (attrs : List (Attribute ℕ)) (names : List ℕ) (r : Bool) → IsPermutation (names_of attrs) names → IsNonDecreasing names → IsTrue r ↔ IsStrictlyIncreasing names → r ≡ names_differ nat_eq attrs
-differ-is attrs names true p up h = sym (differing attrs (IsDistinct-IsPermutation eqb flips names (names_of attrs) (IsPermutation-sym _ _ p) (risen names (h.0 refl))))
-differ-is attrs names false p up h = sym (false_from_ne_true _ (λ e. false≢true (h.1 (IsStrictlyIncreasing-from_distinct names up (IsDistinct-IsPermutation eqb flips (names_of attrs) names p (distinct attrs e))))))
+pub differ-is : (attrs : List (Attribute ℕ)) (names : List ℕ) (r : Bool) → IsPermutation (names_of attrs) names → IsNonDecreasing names
+    → IsTrue r ↔ IsStrictlyIncreasing names → r ≡ names_differ nat_eq attrs
+differ-is attrs names true p up h =
+    sym (differing attrs (IsDistinct-IsPermutation eqb flips names (names_of attrs) (IsPermutation-sym _ _ p) (risen names (h.0 refl))))
+differ-is attrs names false p up h = sym (false_from_ne_true _
+    (λ e. false≢true (h.1 (IsStrictlyIncreasing-from_distinct names up (IsDistinct-IsPermutation eqb flips (names_of attrs) names p (distinct attrs e))))))
 
 -- an attribute more, which the index does not have yet
-pub pushed : (x : Inside) (old : List (Attribute ℕ)) (new : Vec Attr Global) (a : Attr) (u : Bool) → AreNumbered x → inside_attributes x ≡ old → new.items ≡ x.attrs.items ++ a ∷ []
-    → u ≡ (names_differ nat_eq old && not (list_any (λ b. nat_eq b.0 a.name) old)) → AreNumbered (record x { attrs = new; differ = u })
+pub pushed : (x : Inside) (old : List (Attribute ℕ)) (new : Vec Attr Global) (a : Attr) (u : Bool) → AreNumbered x → inside_attributes x ≡ old
+    → new.items ≡ x.attrs.items ++ a ∷ [] → u ≡ (names_differ nat_eq old && not (list_any (λ b. nat_eq b.0 a.name) old))
+    → AreNumbered (record x { attrs = new; differ = u })
 pushed x old new a u h view is test = record {
-  first = h.first ∙ ap attr_numbers (sym (take-append-le (length x.names) x.attrs.items (a ∷ []) (within x.names x.attrs.items h.first)) ∙ ap (take (length x.names)) (sym is));
-  differ = test ∙ sym (differ-last old (attribute_of a))
-      ∙ ap (names_differ nat_eq) (ap (λ l. l ++ attribute_of a ∷ []) (sym view) ∙ sym (map-append attribute_of x.attrs.items (a ∷ [])) ∙ ap (map attribute_of) (sym is));
+  first = h.first ∙ ap attr_numbers
+      (sym (take-append-le (length x.names) x.attrs.items (a ∷ []) (within x.names x.attrs.items h.first)) ∙ ap (take (length x.names)) (sym is));
+  differ = test ∙ sym (differ-last old (attribute_of a)) ∙ ap (names_differ nat_eq)
+      (ap (λ l. l ++ attribute_of a ∷ []) (sym view) ∙ sym (map-append attribute_of x.attrs.items (a ∷ [])) ∙ ap (map attribute_of) (sym is));
 }

@@ -12,7 +12,9 @@ module _ {N : Type 0} where
   tree_at-joined n top (tree b w kids rest) g = grind (arith, tree_at-joined n top rest g, times-join)
 
   pub top-inside : (top : ℕ) (f : Forest N) → times top f ≡ 1 → times top (tree_at top f) ≢ 0
-  top-inside top f one z = let i : times top (tree_at top f) ≡ 1 + (times top (children_of top f) + 0) = ap (times top) (family top f one).1 ∙ rw (eq-eqb top top refl) refl in omega arith
+  top-inside top f one z =
+      let i : times top (tree_at top f) ≡ 1 + (times top (children_of top f) + 0) = ap (times top) (family top f one).1 ∙ rw (eq-eqb top top refl) refl in
+      omega arith
 
   pub tree_at-size : (n : ℕ) (f : Forest N) → size (tree_at n f) ≤ size f
   tree_at-size n f = omega (arith, size-cut n f)

@@ -1,5 +1,5 @@
 -- Where a number that is sought is last among the first of a list.
-use Rattle.hnodes.proofs.IndexNames.{◌≡◌, ℕ, zero, suc, ◌-◌, ◌<◌, ◌≤◌, Bool, true, false, cond, List, get_or, inl, inr, refl, sym, ◌∙◌, ap, arith, cases_Bool, cases_lt, last_up}
+use Rattle.hnodes.proofs.IndexNames.{◌≡◌, ℕ, zero, suc, ◌-◌, ◌<◌, ◌≤◌, Bool, true, false, cond, List, get_or, inl, inr, refl, ◌∙◌, ap, arith, cases_lt, last_up}
 
 module _ (s : ℕ → Bool) (xs : List ℕ) where
   -- the next number is sought, or it is not
@@ -12,7 +12,7 @@ module _ (s : ℕ → Bool) (xs : List ℕ) where
   -- it is one of the first
   pub up-within : (k : ℕ) → last_up s xs k ≤ k
   up-within zero = omega arith
-  up-within (suc k) = elim (cases_Bool (s (get_or xs k 0))) [ inl e ↦ omega (arith, up-sought k e) | inr e ↦ omega (arith, up-other k e, up-within k) ]
+  up-within (suc k) = grind (arith, up-within k)
 
   -- it is sought
   pub up-found : (k : ℕ) → 0 < last_up s xs k → s (get_or xs (last_up s xs k - 1) 0) ≡ true
@@ -39,11 +39,7 @@ module _ (s : ℕ → Bool) (xs ys : List ℕ) where
   up-alike (suc k) same = λ t. cond (same k (omega arith) t) (suc k) (up-alike k (λ j h. same j (omega arith)) t)
 
   -- from a number on that is sought in both
-  pub up-alike-from : (e k : ℕ) → e < k → s (get_or xs e 0) ≡ true → s (get_or ys e 0) ≡ true → ((j : ℕ) → e < j → j < k → s (get_or ys j 0) ≡ s (get_or xs j 0)) → last_up s ys k ≡ last_up s xs k
+  pub up-alike-from : (e k : ℕ) → e < k → s (get_or xs e 0) ≡ true → s (get_or ys e 0) ≡ true
+      → ((j : ℕ) → e < j → j < k → s (get_or ys j 0) ≡ s (get_or xs j 0)) → last_up s ys k ≡ last_up s xs k
   up-alike-from e zero h a b same = absurd (omega arith)
-  up-alike-from e (suc k) h a b same = elim (cases_lt e k) [
-    | inl less ↦ (λ t. cond (same k less (omega arith) t) (suc k) (up-alike-from e k less a b (λ j f g. same j f (omega arith)) t))
-    | inr more ↦
-        let here : k ≡ e = omega arith in
-        up-sought s ys k (ap (λ m. s (get_or ys m 0)) here ∙ b) ∙ sym (up-sought s xs k (ap (λ m. s (get_or xs m 0)) here ∙ a))
-  ]
+  up-alike-from e (suc k) h a b same = grind (arith, cases_lt e k, up-alike-from e k, same k)

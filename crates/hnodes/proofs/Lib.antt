@@ -3,16 +3,10 @@ pub mod Forests
 pub mod Linked
 pub mod Levels
 pub mod Cuts
-pub mod Roots
-pub mod Grafts
-pub mod Stored
 pub mod Rows
-pub mod Makes
 pub mod Indexed
 pub mod Opened
-pub mod Whats
 pub mod Families
-pub mod FirstMoves
 pub mod Spellings
 pub mod Inside
 pub mod Counts
@@ -23,7 +17,6 @@ pub mod Outside
 pub mod ChildSpots
 pub mod Respots
 pub mod Placed
-pub mod Runs
 pub mod Siblings
 pub mod Sizes
 pub mod WaysUp
@@ -32,7 +25,6 @@ pub mod IndexNames
 pub mod LastUp
 pub mod IndexSteps
 pub mod Relinked
-pub mod Borrowed
 pub mod Images
 pub mod Nearest
 pub mod Places

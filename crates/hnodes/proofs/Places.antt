@@ -12,12 +12,10 @@ module _ {X : Type 0} (sought : X → Bool) where
   place-position (x ∷ xs) = grind (arith, place-position xs)
 
   pub position-none : (xs : List X) → last_place sought xs ≡ 0 → position sought xs ≡ None
-  position-none xs none =
-      let past : length xs ≤ position_or_len sought xs = omega (arith, place-position xs) in
+  position-none xs none = let past : length xs ≤ position_or_len sought xs = omega (arith, place-position xs) in
       rw (le-ltb (position_or_len sought xs) (length xs) past) refl
 
   pub position-some : (xs : List X) (i : ℕ) → last_place sought xs ≡ suc i → position sought xs ≡ Some (length xs - 1 - i)
-  position-some xs i some =
-      let up : position_or_len sought xs ≡ length xs - 1 - i = omega (arith, place-position xs) in
+  position-some xs i some = let up : position_or_len sought xs ≡ length xs - 1 - i = omega (arith, place-position xs) in
       let within : position_or_len sought xs < length xs = omega (arith, place-position xs) in
       rw (lt-ltb (position_or_len sought xs) (length xs) within, up) refl

@@ -1,15 +1,21 @@
 -- Where a node is once another one has become something else.
-use Rattle.hnodes.proofs.Names.{arith, ◌≡◌, ℕ, eqb, if◌then◌else◌, List, ◌++◌, Option, Some, None, refl, sym, ◌∙◌, ap, option_and_then, eq-eqb, option_map, What, text, Forest, none, tree, change_what, Spot, spot_below, spot_of, either_of, what_of, last_child_of, previous_of, with_text, before_place, if_text, text_before, Place, LastIn, Before}
-use Rattle.hnodes.proofs.Whats.{last_or-what}
+use Rattle.hnodes.proofs.Names.{arith, ◌≡◌, ℕ, eqb, if◌then◌else◌, List, ◌++◌, Option, Some, None, refl, ◌∙◌, option_map, What, text, Forest, none, tree, change_what, Spot, spot_below, spot_of, either_of, what_of, last_child_of, previous_of, with_text, before_place, if_text, text_before, Place, LastIn, Before}
+use Rattle.hnodes.proofs.Linked.{last_or-what}
 
 module _ {N : Type 0} (n : ℕ) (g : What N → What N) where
   -- the same spot of node m
   abbrev changed_spot : ℕ → Spot N → Spot N
-  changed_spot m s = record { parent = s.parent; before = s.before; what = if eqb m n then g s.what else s.what; children = change_what n g s.children; after = change_what n g s.after }
+  changed_spot m s = record {
+    parent = s.parent;
+    before = s.before;
+    what = if eqb m n then g s.what else s.what;
+    children = change_what n g s.children;
+    after = change_what n g s.after;
+  }
 
-  either-changed : (m : ℕ) (o u : Option (Spot N)) → either_of (option_map (changed_spot m) o) (option_map (changed_spot m) u) ≡ option_map (changed_spot m) (either_of o u)
-  either-changed m None u = refl
-  either-changed m (Some s) u = refl
+  either-changed : (m : ℕ) (o u : Option (Spot N))
+      → either_of (option_map (changed_spot m) o) (option_map (changed_spot m) u) ≡ option_map (changed_spot m) (either_of o u)
+  either-changed m o u = grind arith
 
   below-what : (m : ℕ) (p x : Option ℕ) (f : Forest N) → spot_below m p x (change_what n g f) ≡ option_map (changed_spot m) (spot_below m p x f)
   below-what m p x none = refl
@@ -17,9 +23,7 @@ module _ {N : Type 0} (n : ℕ) (g : What N → What N) where
 
   pub spot-what : (m : ℕ) (f : Forest N) → spot_of m (change_what n g f) ≡ option_map (changed_spot m) (spot_of m f)
   spot-what m none = refl
-  spot-what m (tree b w kids rest) =
-      let l = below-what m None None (tree b w kids none) in
-      let r = spot-what m rest in
+  spot-what m (tree b w kids rest) = let l = below-what m None None (tree b w kids none) in let r = spot-what m rest in
       (λ i. either_of (l i) (r i)) ∙ either-changed m (spot_below m None None (tree b w kids none)) (spot_of m rest)
 
   pub what_of-what : (m : ℕ) (f : Forest N) → what_of m (change_what n g f) ≡ option_map (λ w. if eqb m n then g w else w) (what_of m f)
@@ -46,23 +50,14 @@ module _ {N : Type 0} where
   text_before-is place f n t = rw (t.before, t.what) refl
 
   pub is-text_before : (place : Place) (f : Forest N) (n : ℕ) → text_before place f ≡ Some n → IsTextBefore place f n
-  is-text_before place f n e = go (before_place place f) refl e
-    where
-      with : (m : ℕ) → before_place place f ≡ Some m → (o : Option (What N)) → what_of m f ≡ o → if_text m o ≡ Some n → IsTextBefore place f n
-      with m b None w i = cc
-      with m b (Some (text t)) w i =
-          let same : m ≡ n = cc in
-          record { before = b ∙ ap (λ (k : ℕ). Some k) same; bytes = t; what = ap (λ (k : ℕ). what_of k f) (sym same) ∙ w }
-      with m b _ w i = cc
-
-      go : (o : Option ℕ) → before_place place f ≡ o → option_and_then (λ m. if_text m (what_of m f)) o ≡ Some n → IsTextBefore place f n
-      go None b i = cc
-      go (Some m) b i = with m b (what_of m f) refl i
+  is-text_before place f n e = go (what_of n f) refl (grind arith) (grind arith) where
+    go : (o : Option (What N)) → what_of n f ≡ o → if_text n o ≡ Some n → before_place place f ≡ Some n → IsTextBefore place f n
+    go None w i b = cc
+    go (Some (text t)) w i b = record { before = b; bytes = t; what = w }
+    go _ w i b = cc
 
   -- a text that goes on is still the text before the place
-  pub text_before-longer : (place : Place) (f : Forest N) (n : ℕ) (more : List ℕ) → IsTextBefore place f n → IsTextBefore place (change_what n (with_text more) f) n
-  text_before-longer place f n more t = record {
-    before = before_place-what n (with_text more) place f ∙ t.before;
-    bytes = t.bytes ++ more;
-    what = what_of-what n (with_text more) n f ∙ rw (t.what, eq-eqb n n refl) refl;
-  }
+  pub text_before-longer : (place : Place) (f : Forest N) (n : ℕ) (more : List ℕ) → IsTextBefore place f n
+      → IsTextBefore place (change_what n (with_text more) f) n
+  text_before-longer place f n more t = record
+      { before = before_place-what n (with_text more) place f ∙ t.before; bytes = t.bytes ++ more; what = grind (arith, what_of-what, t.what) }

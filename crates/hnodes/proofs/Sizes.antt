@@ -1,7 +1,6 @@
 -- How many nodes there are inside a node, at most.
-use Rattle.hnodes.proofs.Names.{◌≡◌, ℕ, zero, suc, ◌+◌, ◌<◌, ◌≤◌, eqb, length, refl, ap, arith, eq-eqb, eqb-false, What, Forest, none, tree, times, tree_at, children_of, size, order, AreCounted, length-append}
+use Rattle.hnodes.proofs.Names.{◌≡◌, ℕ, zero, suc, ◌+◌, ◌<◌, ◌≤◌, eqb, length, refl, ap, arith, eq-eqb, eqb-false, What, Forest, none, tree, times, tree_at, children_of, size, order, AreCounted, length-append, cond_both}
 use Rattle.hnodes.proofs.Counted.{is-there, was-made, at-most}
-use Rattle.std.proofs.lemmas.Bool.{cond_both}
 use Rattle.hnodes.proofs.Families.{family}
 use Rattle.hnodes.proofs.Inside.{tree_at-size}
 
@@ -12,7 +11,8 @@ total (suc k) f = total k f + times k f
 
 marked : (k b : ℕ) (w : What ℕ) → b < k → 1 ≤ total k (tree b w none none)
 marked zero b w h = absurd (omega arith)
-marked (suc k) b w h = cond_both (eqb b k) 1 0 (λ n. 1 ≤ total k (tree b w none none) + (n + 0)) (λ _. omega arith) (λ e. omega (arith, marked k b w (omega (arith, eqb-false b k e))))
+marked (suc k) b w h = cond_both (eqb b k) 1 0 (λ n. 1 ≤ total k (tree b w none none) + (n + 0)) (λ _. omega arith) (λ e.
+    omega (arith, marked k b w (omega (arith, eqb-false b k e))))
 
 total-none : (k : ℕ) → total k none ≡ 0
 total-none zero = refl
@@ -24,8 +24,8 @@ total-tree (suc k) b w kids rest = omega (arith, total-tree k b w kids rest)
 
 size-total : (k : ℕ) (f : Forest ℕ) → ((n : ℕ) → 0 < times n f → n < k) → size f ≤ total k f
 size-total k none h = omega (arith, total-none k)
-size-total k (tree b w kids rest) h =
-    omega (arith, total-tree k b w kids rest, marked k b w (h b there), size-total k kids (λ n p. h n (omega arith)), size-total k rest (λ n p. h n (omega arith)))
+size-total k (tree b w kids rest) h = omega
+    (arith, total-tree k b w kids rest, marked k b w (h b there), size-total k kids (λ n p. h n (omega arith)), size-total k rest (λ n p. h n (omega arith)))
   where
     there : 0 < times b (tree b w kids rest)
     there = rw (eq-eqb b b refl) (omega arith)
@@ -37,9 +37,7 @@ module _ (made : ℕ) (f : Forest ℕ) (counted : AreCounted made f) where
 
   -- there are as many nodes inside a node as were made, or fewer
   pub inside-few : (q : ℕ) → q < made → size (children_of q f) ≤ made
-  inside-few q h =
-      let fam = family q f (is-there made f counted q h) in
-      let a : size (tree_at q f) ≡ 1 + (size (children_of q f) + 0) = ap size fam.1 in
+  inside-few q h = let fam = family q f (is-there made f counted q h) in let a : size (tree_at q f) ≡ 1 + (size (children_of q f) + 0) = ap size fam.1 in
       omega (arith, tree_at-size q f, size-total made f (was-made made f counted), total-most made)
 
 -- in tree order each node is once

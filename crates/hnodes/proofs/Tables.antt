@@ -1,6 +1,6 @@
 -- One member of a list, those before it and those after it.
 use Rattle.hnodes.proofs.IndexNames.{◌≡◌, ℕ, suc, ◌<◌, List, [], ◌∷◌, ◌++◌, take, drop, length, get_or, sym, ◌∙◌, ap}
-use Rattle.std.proofs.Math.Seq.{take-suc, drop-cons}
+use Rattle.hnodes.proofs.Names.{take-suc, drop-cons}
 
 module _ {X : Type 0} (items : List X) (n j : ℕ) (x : X) (next : n ≡ suc j) (within : j < length items) (is : x ≡ get_or items j x) where
   pub take-more : take n items ≡ take j items ++ x ∷ []

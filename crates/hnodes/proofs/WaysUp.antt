@@ -1,11 +1,13 @@
 -- From a node to its parent, and so on.
-use Rattle.hnodes.proofs.Names.{◌≡◌, ℕ, ◌<◌, List, [], ◌∷◌, Some, None, refl, sym, ◌∙◌, ap, arith, option_and_then, unwrap_or, ◌⊎◌, inl, inr, eqb-true, eq-eqb, What, Forest, none, tree, times, join, children_of, Spot, parent_of, AreCounted, path_above, ancestors_of, way_up, is_among, tree_at, eqb, ltb, ◌≤◌, false, ◌||◌, nat_tests}
+use Rattle.hnodes.proofs.Names.{◌≡◌, ℕ, ◌<◌, List, [], ◌∷◌, Some, None, refl, sym, ◌∙◌, ap, arith, unwrap_or, ◌⊎◌, inl, inr, eq-eqb, What, Forest, none, tree, times, join, children_of, parent_of, AreCounted, path_above, ancestors_of, way_up, is_among, tree_at, eqb, ltb, ◌≤◌, false, ◌||◌, nat_tests}
 use Rattle.hnodes.proofs.Forests.{times-join, tree_at-absent, either-none}
 use Rattle.hnodes.proofs.Inside.{tree_at-among}
 use Rattle.hnodes.proofs.Levels.{level, Here, Below}
 use Rattle.hnodes.proofs.Counted.{at-most, is-there}
-use Rattle.hnodes.proofs.Families.{of_root, of_kids, of_rest, child, left-apart}
+use Rattle.hnodes.proofs.Families.{left-apart}
 use Rattle.hnodes.proofs.ChildSpots.{child-spot, root-spot}
+use Rattle.hnodes.proofs.Forests.{join-none, children_of-absent}
+use Rattle.hnodes.proofs.Families.{children-among}
 
 module _ {N : Type 0} where
   above-absent : (n : ℕ) (up : List ℕ) (f : Forest N) → times n f ≡ 0 → path_above n up f ≡ None
@@ -20,33 +22,28 @@ module _ {N : Type 0} where
   pub above-inside : (n top : ℕ) (up : List ℕ) (f : Forest N) → times n f ≡ 1 → times top f ≤ 1 → eqb n top ≡ false
       → is_among top (unwrap_or (path_above n up f) []) ≡ (is_among top up || ltb 0 (times n (tree_at top f)))
   above-inside n top up none one few other = absurd (omega arith)
-  above-inside n top up (tree b w kids rest) one few other =
-      grind (arith, nat_tests, above-inside n top (b ∷ up) kids, above-inside n top up rest, above-absent, times-join, tree_at-among, tree_at-absent, either-none)
+  above-inside n top up (tree b w kids rest) one few other = grind
+      (arith, nat_tests, above-inside n top (b ∷ up) kids, above-inside n top up rest, above-absent, times-join, tree_at-among, tree_at-absent, either-none)
 
   module _ (n q : ℕ) (w : What N) where
-    -- what a child is inside of: its parent, and what that is inside of
-    abbrev Stacked : List ℕ → Forest N → Type 0
-    Stacked up f = (ups : List ℕ) × (path_above q up f ≡ Some ups) × (path_above n up f ≡ Some (q ∷ ups))
-
-    stacked : (up : List ℕ) (L k R f : Forest N) → times q f ≡ 1 → times n f ≡ 1 → children_of q f ≡ join L (tree n w k R) → Stacked up f
+    stacked : (up : List ℕ) (L k R f : Forest N) → times q f ≡ 1 → times n f ≡ 1 → children_of q f ≡ join L (tree n w k R)
+        → unwrap_or (path_above n up f) [] ≡ q ∷ unwrap_or (path_above q up f) []
     stacked up L k R none one once is = absurd (omega arith)
-    stacked up L k R (tree b v kids rest) one once is = elim (child n q w L k R b v kids rest one once is) [
-      | of_root i j o y same z ↦
-          let inside : path_above n (b ∷ up) kids ≡ Some (b ∷ up) = ap (path_above n (b ∷ up)) same ∙ above-row n w (b ∷ up) L k R (left-apart n q w L k R (ap (times n) (sym same) ∙ o)) in
-          (up, rw i refl, rw (j, inside) (ap (λ m. Some (m ∷ up)) (eqb-true b q i)))
-      | of_kids i j o y a same z ↦ let s = stacked (b ∷ up) L k R kids a o same in (s.0, rw (i, s.1) refl, rw (j, s.2) refl)
-      | of_rest i t j o y a same ↦ let s = stacked up L k R rest a y same in (s.0, rw (i, above-absent q (b ∷ up) kids t) s.1, rw (j, above-absent n (b ∷ up) kids o) s.2)
-    ]
+    stacked up L k R (tree b v kids rest) one once is = let i = ap (times n) is in let j = times-join n L (tree n w k R) in let c = children-among n q kids in
+        let d = children-among n q rest in let e = times-join n (children_of q kids) (children_of q rest) in
+        let g = above-row n w (b ∷ up) L k R in
+        grind (arith, stacked (b ∷ up) L k R kids, stacked up L k R rest, above-absent, g, either-none, join-none, children_of-absent)
 
   -- one step
   pub way-step : (made : ℕ) (f : Forest N) → AreCounted made f → (n : ℕ) → n < made → way_up (Some n) f ≡ n ∷ way_up (parent_of n f) f
-  way-step made f counted n h = ap (λ xs. n ∷ xs) (go (level n f (is-there made f counted n h) (at-most made f counted)))
-    where
-      go : Here n f ⊎ Below n f → ancestors_of n f ≡ way_up (parent_of n f) f
-      go (inl p) =
-          let root : path_above n [] f ≡ Some [] = ap (path_above n []) p.is ∙ above-row n p.what [] p.left p.kids p.right (left-apart n n p.what p.left p.kids p.right (ap (times n) (sym p.is) ∙ is-there made f counted n h)) in
-          ap (λ o. unwrap_or o []) root ∙ ap (λ o. way_up (option_and_then (λ (s : Spot N). s.parent) o) f) (sym (root-spot n p.what p.left p.kids p.right f (at-most made f counted n) p.is))
-      go (inr p) =
-          let one = is-there made f counted n h in
-          let s = stacked n p.parent p.what [] p.left p.kids p.right f p.one one p.is in
-          ap (λ o. unwrap_or o []) s.2 ∙ ap (λ xs. p.parent ∷ xs) (sym (ap (λ o. unwrap_or o []) s.1)) ∙ ap (λ o. way_up (option_and_then (λ (u : Spot N). u.parent) o) f) (sym (child-spot n p.parent p.what p.left p.kids p.right f p.one one p.is))
+  way-step made f counted n h = ap (λ xs. n ∷ xs) (go (level n f one (at-most made f counted))) where
+    one : times n f ≡ 1
+    one = is-there made f counted n h
+
+    go : Here n f ⊎ Below n f → ancestors_of n f ≡ way_up (parent_of n f) f
+    go (inl p) = let spot = root-spot n p.what p.left p.kids p.right f (at-most made f counted n) p.is in
+        let apart = left-apart n n p.what p.left p.kids p.right (ap (times n) (sym p.is) ∙ one) in
+        let above : path_above n [] f ≡ Some [] = rw p.is (above-row n p.what [] p.left p.kids p.right apart) in
+        rw (above, spot) refl
+    go (inr p) = let spot = child-spot n p.parent p.what p.left p.kids p.right f p.one one p.is in
+        stacked n p.parent p.what [] p.left p.kids p.right f p.one one p.is ∙ rw spot refl

@@ -1,4 +1,4 @@
--- What is kept of a list of numbers: the numbers that end in the same bits are a group, and each keeps the nearest place before it
+-- What is kept of a list of numbers: the numbers that end in the same bits are a group, and each keeps the nearest ordinal before it
 -- where one of its group is.
 use Rattle.std.specs.Prelude.{◌≡◌, ◌≢◌, ℕ, suc, ◌+◌, ◌-◌, ◌<◌, ◌≤◌, ◌^◌, ◌==◌, ◌&&◌, Bool, true, not, List, length, map, slice_index, bit_and}
 use Rattle.hnodes.specs.IndexedList.{none, last_up}
@@ -28,22 +28,22 @@ is_in_group width group n = not (n == none) && group_of n width == group
 abbrev pub in_group_of : (width number : ℕ) → ℕ → Bool
 in_group_of width number = is_in_group width (group_of number width)
 
--- the next place past an index where a number is sought; 0 is none
-pub record IsNext (sought : ℕ → Bool) (numbers : List ℕ) (index place : ℕ) : Type 0 where
-  pub found : 0 < place → (suc index < place) × (place ≤ length numbers) × (sought (slice_index numbers (place - 1)) ≡ true)
-  pub least : (j : ℕ) → index < j → j < length numbers → sought (slice_index numbers j) ≡ true → (0 < place) × (place ≤ suc j)
+-- the next ordinal past an index where a number is sought; 0 is none
+pub record IsNext (sought : ℕ → Bool) (numbers : List ℕ) (index ordinal : ℕ) : Type 0 where
+  pub found : 0 < ordinal → (suc index < ordinal) × (ordinal ≤ length numbers) × (sought (slice_index numbers (ordinal - 1)) ≡ true)
+  pub least : (j : ℕ) → index < j → j < length numbers → sought (slice_index numbers j) ≡ true → (0 < ordinal) × (ordinal ≤ suc j)
 
--- a link can be put at an index of the numbers: it keeps the nearest place of its group up to there, and the next one
+-- a link can be put at an index of the numbers: it keeps the nearest ordinal of its group up to there, and the next one
 pub record FitsAt (width : ℕ) (numbers : List ℕ) (index : ℕ) (x : Link) : Type 0 where
   pub before : x.before ≡ last_up (in_group_of width x.number) numbers (index + 1)
   pub next : IsNext (in_group_of width x.number) numbers index x.hint
 
--- each number keeps the nearest place before it where one of its group is
+-- each number keeps the nearest ordinal before it where one of its group is
 abbrev pub Keep : (width : ℕ) → (numbers befores : List ℕ) → Type 0
 Keep width numbers befores =
     (i : ℕ) → i < length numbers → slice_index numbers i ≢ none → slice_index befores i ≡ last_up (in_group_of width (slice_index numbers i)) numbers i
 
--- of the first links a table says where each group is last, and each of their numbers keeps the nearest place before it where one of its group is
+-- of the first links a table says where each group is last, and each of their numbers keeps the nearest ordinal before it where one of its group is
 pub record IndexedTo (last : List ℕ) (links : List Link) (k : ℕ) : Type 0 where
   pub says : (g : ℕ) → g < length last → slice_index last g ≡ last_up (is_in_group (length last) g) (numbers_of links) k
   pub kept : (i : ℕ) → i < k → slice_index (numbers_of links) i ≢ none
@@ -53,7 +53,7 @@ pub record IsIndexed (last : List ℕ) (links : List Link) : Type 0 where
   pub wide : 0 < length links → 0 < length last
   pub to : IndexedTo last links (length (numbers_of links))
 
--- the same, and the places are numbers of 32 bits
+-- the same, and the ordinals are numbers of 32 bits
 pub record AreIndexed (last : List ℕ) (links : List Link) : Type 0 where
   pub indexed : IsIndexed last links
   pub fits : length links < 2 ^ 32

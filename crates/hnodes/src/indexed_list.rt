@@ -11,7 +11,7 @@ use std::marker::Model;
 /// The number that stands where nothing is: no question finds it.
 pub const NONE: usize = 1;
 
-/// A number, and the nearest place before it where a number of its group is. Places count from 1; 0 is none.
+/// A number, and the nearest ordinal before it where a number of its group is. Ordinals count from 1; 0 is none.
 #[derive(Clone, Copy, Debug)]
 pub(crate) struct Link {
     pub(crate) number: u64,
@@ -23,11 +23,11 @@ pub(crate) struct Link {
 /// A list of numbers.
 ///
 /// Numbers that end in the same bits are a group, and there are more groups than numbers. A question walks the group of a
-/// number; an edit of one place updates what keeps it. A number takes 16 bytes, and a group 4.
+/// number; an edit of one number updates what keeps its ordinal. A number takes 16 bytes, and a group 4.
 #[derive(Debug, Drop)]
 pub struct IndexedList {
     pub(crate) links: Vec<Link>,
-    /// For each group its last place; 0 if none of it is in the list.
+    /// For each group its last ordinal; 0 if none of it is in the list.
     pub(crate) last: Vec<u32>,
     alloc: Global,
 }
@@ -53,7 +53,7 @@ pub(crate) fn group_of(number: usize, width: usize) -> usize
     number & (width - 1)
 }
 
-/// Walks down a group from one of its places to where a number of the group is; 0 if it is nowhere on the way.
+/// Walks down a group from one of its ordinals to where a number of the group is; 0 if it is nowhere on the way.
 fn find_down(links: &[Link], from: usize, number: usize) -> usize
     requires within { from ≤ length links.now }
     requires group { (width : ℕ) × Keep width (numbers_of links.now) (befores_of links.now)
@@ -61,13 +61,13 @@ fn find_down(links: &[Link], from: usize, number: usize) -> usize
     requires number { number ≢ none }
     ensures { result ≡ last_up (λ k. k == number) (numbers_of links.now) from }
 {
-    let mut place = from;
-    while place > 0 {
-        let link = links[place - 1];
+    let mut ordinal = from;
+    while ordinal > 0 {
+        let link = links[ordinal - 1];
         if link.number as usize == number {
-            return place;
+            return ordinal;
         }
-        place = link.before as usize;
+        ordinal = link.before as usize;
     }
     0
 }
@@ -88,22 +88,22 @@ fn unwind(last: &mut [u32], links: &[Link], from: usize)
     }
 }
 
-/// Notes where the next number of a group is, in the link at a place, if there is one.
-pub(crate) fn hint_at(links: &mut [Link], place: u32, next: u32)
-    requires { place ≤ length links.old }
+/// Notes where the next number of a group is, in the link at an ordinal, if there is one.
+pub(crate) fn hint_at(links: &mut [Link], ordinal: u32, next: u32)
+    requires { ordinal ≤ length links.old }
     ensures numbers { numbers_of links.new ≡ numbers_of links.old }
     ensures befores { befores_of links.new ≡ befores_of links.old }
 {
-    if place > 0 {
-        links[place as usize - 1].hint = next;
+    if ordinal > 0 {
+        links[ordinal as usize - 1].hint = next;
     }
 }
 
-/// Puts the links from an index on into the table again, with the places that they have now.
+/// Puts the links from an index on into the table again, with the ordinals that they have now.
 fn rewind(last: &mut [u32], links: &mut [Link], from: usize)
     requires indexed { IndexedTo last.old links.old from }
     requires within { from ≤ length links.old }
-    requires places { length links.old < 2 ^ 32 }
+    requires ordinals { length links.old < 2 ^ 32 }
     requires wide { 0 < length links.old → 0 < length last.old }
     ensures indexed { IsIndexed last.new links.new }
     ensures same { numbers_of links.new ≡ numbers_of links.old }
@@ -111,12 +111,12 @@ fn rewind(last: &mut [u32], links: &mut [Link], from: usize)
     for index in from..links.len() {
         let number = links[index].number as usize;
         if number != NONE {
-            let place = index as u32 + 1;
+            let ordinal = index as u32 + 1;
             let group = group_of(number, last.len());
             let before = last[group];
             links[index].before = before;
-            hint_at(links, before, place);
-            last[group] = place;
+            hint_at(links, before, ordinal);
+            last[group] = ordinal;
         }
     }
 }
@@ -125,7 +125,7 @@ fn rewind(last: &mut [u32], links: &mut [Link], from: usize)
 #[inline(always)]
 fn make_room(alloc: Global, last: &mut Vec<u32>, links: &mut [Link]) -> Result<(), AllocError>
     requires indexed { IsIndexed last.old.items links.old }
-    requires places { length links.old < 2 ^ 32 }
+    requires ordinals { length links.old < 2 ^ 32 }
     ensures indexed { IsIndexed last.new.items links.new }
     ensures same { numbers_of links.new ≡ numbers_of links.old }
     ensures room { OnOk result (0 < length last.new.items) }
@@ -185,7 +185,7 @@ impl IndexedList {
         Some(link.number as usize)
     }
 
-    /// The last place of a number.
+    /// The last ordinal of a number.
     pub fn last(&self, number: usize) -> usize
         requires { number ≢ none }
         ensures { result ≡ last_up (λ k. k == number) self.now (length self.now) }
@@ -193,18 +193,18 @@ impl IndexedList {
         if self.last.is_empty() {
             return 0;
         }
-        let place = self.last[group_of(number, self.last.len())];
-        find_down(&self.links, place as usize, number)
+        let ordinal = self.last[group_of(number, self.last.len())];
+        find_down(&self.links, ordinal as usize, number)
     }
 
-    /// The nearest place before another place where the same number is.
-    pub fn before(&self, place: usize) -> usize
-        requires some { 0 < place }
-        requires within { place ≤ length self.now }
-        requires number { slice_index self.now (place - 1) ≢ none }
-        ensures { result ≡ last_up (λ k. k == slice_index self.now (place - 1)) self.now (place - 1) }
+    /// The nearest ordinal before another ordinal where the same number is.
+    pub fn before(&self, ordinal: usize) -> usize
+        requires some { 0 < ordinal }
+        requires within { ordinal ≤ length self.now }
+        requires number { slice_index self.now (ordinal - 1) ≢ none }
+        ensures { result ≡ last_up (λ k. k == slice_index self.now (ordinal - 1)) self.now (ordinal - 1) }
     {
-        let link = self.links[place - 1];
+        let link = self.links[ordinal - 1];
         find_down(&self.links, link.before as usize, link.number as usize)
     }
 
@@ -215,7 +215,7 @@ impl IndexedList {
         ensures ok { OnOk result (self.new ≡ self.old ++ number ∷ []) }
         ensures err { OnErr result (self.new ≡ self.old) }
     {
-        let Ok(place) = u32::try_from(self.links.len() + 1) else {
+        let Ok(ordinal) = u32::try_from(self.links.len() + 1) else {
             return Err(AllocError);
         };
         make_room(self.alloc, &mut self.last, &mut self.links)?;
@@ -226,8 +226,8 @@ impl IndexedList {
             before,
             hint: 0,
         })?;
-        hint_at(&mut self.links, before, place);
-        self.last[group] = place;
+        hint_at(&mut self.links, before, ordinal);
+        self.last[group] = ordinal;
         Ok(())
     }
 

@@ -1,4 +1,4 @@
-//! Edits of one place of a list of numbers, or of two neighbours.
+//! Edits of one number of a list, or of two neighbours.
 
 ghost use Rattle.std.specs.Prelude.{◌≡◌, ◌≢◌, ℕ, ◌<◌, ◌≤◌, ◌+◌, ◌==◌, if◌then◌else◌, length, slice_index, slice_set};
 ghost use Rattle.hnodes.specs.IndexedList.{none};
@@ -6,8 +6,8 @@ ghost use Rattle.hnodes.specs.IndexLinks.{AreIndexed, FitsAt, IsNext, befores_of
 
 use crate::indexed_list::{IndexedList, Link, NONE, group_of, hint_at};
 
-/// What a number at an index keeps: the nearest place before it where its group is, and the next one as a hint; 0 is none.
-/// It walks down the group from its last place.
+/// What a number at an index keeps: the nearest ordinal before it where its group is, and the next one as a hint; 0 is none.
+/// It walks down the group from its last ordinal.
 fn link_at(last: &[u32], links: &[Link], index: usize, number: u64) -> Link
     requires are_indexed { AreIndexed last.now links.now }
     requires within { index < length links.now }
@@ -27,7 +27,7 @@ fn link_at(last: &[u32], links: &[Link], index: usize, number: u64) -> Link
     }
 }
 
-/// The next place of the group of a number after its index; 0 is none. It takes constant time where the hint is right.
+/// The next ordinal of the group of a number after its index; 0 is none. It takes constant time where the hint is right.
 fn above(last: &[u32], links: &[Link], index: usize) -> u32
     requires are_indexed { AreIndexed last.now links.now }
     requires within { index < length links.now }
@@ -44,18 +44,18 @@ fn above(last: &[u32], links: &[Link], index: usize) -> u32
     link_at(last, links, index, number).hint
 }
 
-/// Changes the place that the next number of a group keeps, or that the table says, where there is no next one.
-fn keep(last: &mut [u32], links: &mut [Link], group: usize, next: u32, place: u32)
+/// Changes the ordinal that the next number of a group keeps, or that the table says, where there is no next one.
+fn keep(last: &mut [u32], links: &mut [Link], group: usize, next: u32, ordinal: u32)
     requires group { group < length last.old }
     requires next { next ≤ length links.old }
     ensures numbers { numbers_of links.new ≡ numbers_of links.old }
-    ensures table { last.new ≡ (if next == 0 then slice_set last.old group place else last.old) }
-    ensures befores { (j : ℕ) → slice_index (befores_of links.new) j ≡ (if j + 1 == next then place else slice_index (befores_of links.old) j) }
+    ensures table { last.new ≡ (if next == 0 then slice_set last.old group ordinal else last.old) }
+    ensures befores { (j : ℕ) → slice_index (befores_of links.new) j ≡ (if j + 1 == next then ordinal else slice_index (befores_of links.old) j) }
 {
     if next > 0 {
-        links[next as usize - 1].before = place;
+        links[next as usize - 1].before = ordinal;
     } else {
-        last[group] = place;
+        last[group] = ordinal;
     }
 }
 
@@ -80,7 +80,7 @@ fn take_out(last: &mut [u32], links: &mut [Link], index: usize) -> Link
     link
 }
 
-/// Puts a link at an index where nothing is, where it keeps the place before it, and its hint is right.
+/// Puts a link at an index where nothing is, where it keeps the ordinal before it, and its hint is right.
 fn put_in(last: &mut [u32], links: &mut [Link], index: usize, link: Link)
     requires are_indexed { AreIndexed last.old links.old }
     requires within { index < length links.old }
@@ -92,11 +92,11 @@ fn put_in(last: &mut [u32], links: &mut [Link], index: usize, link: Link)
     if link.number == NONE as u64 {
         return;
     }
-    let place = index as u32 + 1;
+    let ordinal = index as u32 + 1;
     links[index] = link;
     let group = group_of(link.number as usize, last.len());
-    keep(last, links, group, link.hint, place);
-    hint_at(links, link.before, place);
+    keep(last, links, group, link.hint, ordinal);
+    hint_at(links, link.before, ordinal);
 }
 
 fn is_grouped(number: u64, other: u64, width: usize) -> bool
@@ -106,7 +106,7 @@ fn is_grouped(number: u64, other: u64, width: usize) -> bool
     other != NONE as u64 && group_of(other as usize, width) == group_of(number as usize, width)
 }
 
-/// Exchanges what is at an index and at the next one. If both are of one group, the one that moves up keeps the place of the other one.
+/// Exchanges what is at an index and at the next one. If both are of one group, the one that moves up keeps the ordinal of the other one.
 fn swap_at(last: &mut [u32], links: &mut [Link], index: usize)
     requires are_indexed { AreIndexed last.old links.old }
     requires within { index + 1 < length links.old }

@@ -18,9 +18,6 @@ use names::{Attr, NameId, Refusal};
 use std::alloc::{AllocError, Global};
 use std::marker::Model;
 
-/// A node that was made.
-type Made = Result<NodeId, Refusal>;
-
 /// The tree of a document, and the loose nodes: those that were made and are not in it yet. Each node takes 40 bytes, and what it
 /// holds of the store: its text, or its attributes. Making a node and moving one take amortized constant time. No call recurses, nor
 /// does the drop, and the moves and the questions allocate nothing.
@@ -127,7 +124,12 @@ impl Tree {
     /// Makes an element, loose. The error is `TooManyNodes` at the limit, and `Memory` if memory runs out; either leaves the tree
     /// unchanged. The same holds of all calls that make a node.
     #[inline(always)]
-    pub fn create_element(&mut self, name: NameId, mut attrs: Vec<Attr>, at: u64) -> Made
+    pub fn create_element(
+        &mut self,
+        name: NameId,
+        mut attrs: Vec<Attr>,
+        at: u64,
+    ) -> Result<NodeId, Refusal>
         ensures { Makes (element name (map attribute_of attrs.items)) at self.old self.new result }
     {
         self.create_element_from(name, &mut attrs, at)
@@ -135,7 +137,12 @@ impl Tree {
 
     /// Makes an element, loose, of attributes that leave their list, which keeps its memory for others.
     #[inline(always)]
-    pub fn create_element_from(&mut self, name: NameId, attrs: &mut Vec<Attr>, at: u64) -> Made
+    pub fn create_element_from(
+        &mut self,
+        name: NameId,
+        attrs: &mut Vec<Attr>,
+        at: u64,
+    ) -> Result<NodeId, Refusal>
         ensures { Makes (element name (map attribute_of attrs.old.items)) at self.old self.new result }
     {
         self.make(Given::Element(name, attrs), at)
@@ -143,7 +150,12 @@ impl Tree {
 
     /// Makes an element that shares its attributes, loose.
     #[inline(always)]
-    pub fn create_sharing(&mut self, name: NameId, attrs: Attributes, at: u64) -> Made
+    pub fn create_sharing(
+        &mut self,
+        name: NameId,
+        attrs: Attributes,
+        at: u64,
+    ) -> Result<NodeId, Refusal>
         ensures { Makes (element name attrs) at self.old self.new result }
     {
         self.make(Given::Sharing(name, attrs), at)
@@ -151,28 +163,33 @@ impl Tree {
 
     /// Makes an element of attributes that others share, loose. A few are copied.
     #[inline(always)]
-    pub fn create_copying(&mut self, name: NameId, attrs: &Attributes, at: u64) -> Made
+    pub fn create_copying(
+        &mut self,
+        name: NameId,
+        attrs: &Attributes,
+        at: u64,
+    ) -> Result<NodeId, Refusal>
         ensures { Makes (element name attrs.now) at self.old self.new result }
     {
         self.make(Given::Copied(name, attrs), at)
     }
 
     /// Makes a comment, loose.
-    pub fn create_comment(&mut self, text: String, at: u64) -> Made
+    pub fn create_comment(&mut self, text: String, at: u64) -> Result<NodeId, Refusal>
         ensures { Makes (comment (string_bytes text)) at self.old self.new result }
     {
         self.make(Given::Comment(text), at)
     }
 
     /// Makes a doctype, loose.
-    pub fn create_doctype(&mut self, texts: DocumentType, at: u64) -> Made
+    pub fn create_doctype(&mut self, texts: DocumentType, at: u64) -> Result<NodeId, Refusal>
         ensures { Makes (doctype (string_bytes texts.name) (string_bytes texts.public_id) (string_bytes texts.system_id)) at self.old self.new result }
     {
         self.make(Given::Doctype(texts), at)
     }
 
     #[inline(always)]
-    fn make(&mut self, given: Given, at: u64) -> Made
+    fn make(&mut self, given: Given, at: u64) -> Result<NodeId, Refusal>
         ensures { Makes (given_is given.entry) at self.old self.new result }
     {
         if self.nodes.len() >= self.limit as usize {

@@ -2,12 +2,12 @@ use Rattle.hnodes.proofs.IndexNames.{◌≡◌, ◌==◌, ◌≤◌, length, las
 use Rattle.hnodes.proofs.IndexSteps.{Walks}
 use Rattle.hnodes.proofs.indexed_list.find_down.Given as goal
 
-abbrev pub invariant-loop-place : goal.invariant-loop-place
-invariant-loop-place l = record {
-  within : l.place ≤ length l.links;
-  walks : Walks l.links l.number l.place;
-  same : last_up (λ k. k == l.number) (numbers_of l.links) l.from ≡ last_up (λ k. k == l.number) (numbers_of l.links) l.place;
+abbrev pub invariant-loop-ordinal : goal.invariant-loop-ordinal
+invariant-loop-ordinal l = record {
+  within : l.ordinal ≤ length l.links;
+  walks : Walks l.links l.number l.ordinal;
+  same : last_up (λ k. k == l.number) (numbers_of l.links) l.from ≡ last_up (λ k. k == l.number) (numbers_of l.links) l.ordinal;
 }
 
-abbrev pub decreases-loop-place : goal.decreases-loop-place
-decreases-loop-place l = l.place
+abbrev pub decreases-loop-ordinal : goal.decreases-loop-ordinal
+decreases-loop-ordinal l = l.ordinal

@@ -1,5 +1,5 @@
 use Rattle.hnodes.proofs.IndexNames.{◌==◌, not, none}
-use Rattle.std.proofs.lemmas.List.Filters.{FiltersInPlace}
+use Rattle.hnodes.proofs.Names.{FiltersInPlace}
 use Rattle.hnodes.proofs.indexed_list.squeeze.Given as goal
 
 abbrev pub invariant-loop-index : goal.invariant-loop-index

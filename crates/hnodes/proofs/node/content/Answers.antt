@@ -5,6 +5,5 @@ pub returns-in-Sharing-clause-content : goal.returns-in-Sharing-clause-content
 returns-in-Sharing-clause-content c = let held = c.sharing.ensures c.args.store.now in (held.0, held.1 ∙ ap given_is (sym c.in-Sharing.is))
 
 pub returns-in_ok-share-in-None-clause-content : goal.returns-in_ok-share-in-None-clause-content
-returns-in_ok-share-in-None-clause-content c =
-    let held = c.sharing-in-None.ensures c.add_attrs.new.self in
+returns-in_ok-share-in-None-clause-content c = let held = c.sharing-in-None.ensures c.add_attrs.new.self in
     (held.0, held.1 ∙ ap (element c.in-Copied.name) c.in_ok-share-in-None.ensures ∙ ap given_is (sym c.in-Copied.is))

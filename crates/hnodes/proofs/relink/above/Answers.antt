@@ -3,4 +3,4 @@ use Rattle.hnodes.proofs.relink.above.Goals as goal
 
 pub returns-then-next-index : goal.returns-then-next-index
 returns-then-next-index c =
-    hint-next c.args.last.now c.args.links.now c.requires.are_indexed.indexed c.args.index _ c.if-hint-gt0.true c.if-hint-links.true c.if-next.true c.if-next-index.true
+    hint-next c.requires.are_indexed.indexed c.args.index _ c.if-hint-gt0.true c.if-hint-links.true c.if-next.true c.if-next-index.true

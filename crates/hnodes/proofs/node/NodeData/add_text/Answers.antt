@@ -1,10 +1,12 @@
-use Rattle.hnodes.proofs.Names.{◌++◌, sym, ◌∙◌, ap, subst, text, content_is, with_text, IsKept}
-use Rattle.hnodes.proofs.Stored.{grown-holds}
-use Rattle.hnodes.specs.declared.node.NodeData.TheVariants.{Text}
+use Rattle.hnodes.proofs.Names.{◌++◌, sym, ◌∙◌, ap, subst, text, content_is, with_text, IsKept, Text}
+use Rattle.hnodes.proofs.Rows.{grown-holds}
 use Rattle.hnodes.proofs.node.NodeData.add_text.Goals as goal
 
 pub returns-in_ok-self-in-None-clause-ok : goal.returns-in_ok-self-in-None-clause-ok
-returns-in_ok-self-in-None-clause-ok c =
-    let long = c.in_ok-self-in-None.ensures c.lengthen.new.self in
-    let held = grown-holds c.args.store.now c.lengthen.new.self (Text c.in-Text.run') c.lengthen.ensures.grown (subst (IsKept c.args.store.now) c.in-Text.is c.requires) in
-    (long.0, long.1 ∙ ap (λ bytes. text (bytes ++ c.args.more.now)) c.get.ensures ∙ ap (with_text c.args.more.now) held.1 ∙ ap (λ d. with_text c.args.more.now (content_is c.args.store.now d)) (sym c.in-Text.is))
+returns-in_ok-self-in-None-clause-ok c = let long = c.in_ok-self-in-None.ensures c.lengthen.new.self in
+    let held = grown-holds c.args.store.now c.lengthen.new.self (Text c.in-Text.run') c.lengthen.ensures.grown
+    (subst (IsKept c.args.store.now) c.in-Text.is c.requires) in (
+      long.0,
+      long.1 ∙ ap (λ bytes. text (bytes ++ c.args.more.now)) c.get.ensures ∙ ap (with_text c.args.more.now) held.1
+          ∙ ap (λ d. with_text c.args.more.now (content_is c.args.store.now d)) (sym c.in-Text.is),
+    )

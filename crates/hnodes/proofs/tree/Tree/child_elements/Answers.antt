@@ -1,13 +1,11 @@
-use Rattle.hnodes.proofs.Names.{◌<◌, ◌∙◌, ap, sym, subst, List, ℕ, All, elements_among, siblings_from}
+use Rattle.hnodes.proofs.Names.{◌∙◌, ap, sym, elements_among, siblings_from}
 use Rattle.hnodes.proofs.Siblings.{elements-made, children-from}
 use Rattle.hnodes.proofs.tree.Tree.child_elements.Goals as goal
 
 pub returns-clause-order : goal.returns-clause-order
-returns-clause-order c =
-    let f = c.args.self.now.trees in
+returns-clause-order c = let f = c.args.self.now.trees in
     sym c.element_from-next.ensures.same ∙ ap (λ o. elements_among (siblings_from o f) f) c.first_child.ensures.child
-    ∙ ap (λ ns. elements_among ns f) (children-from c.args.self.now.made f c.first_child.ensures.nodes.counted c.args.node c.requires)
+    ∙ ap (λ ns. elements_among ns f) (children-from c.first_child.ensures.nodes.counted c.args.node c.requires)
 
 pub returns-clause-within : goal.returns-clause-within
-returns-clause-within c =
-    subst (λ (ns : List ℕ). All (λ n. n < c.args.self.now.made) ns) (sym (returns-clause-order c)) (elements-made c.args.self.now.trees c.args.self.now.made c.first_child.ensures.nodes.counted c.args.node c.requires)
+returns-clause-within c = rw (returns-clause-order c) (elements-made c.first_child.ensures.nodes.counted c.args.node c.requires)

@@ -4,15 +4,12 @@ use Rattle.hnodes.proofs.Siblings.{element-or, siblings-on}
 use Rattle.hnodes.proofs.tree.Tree.element_from.Goals as goal
 
 pub loop-next-smaller : goal.loop-next-smaller
-loop-next-smaller c =
-    omega (arith, ap length (siblings-on c.args.self.now.made c.args.self.now.trees c.next-next.ensures.nodes.counted c.loop-next.next c.next-next.result c.in-Some.node c.in-Some.is c.loop-next.invariant.within c.next-next.ensures.sibling))
+loop-next-smaller c = let step = siblings-on c.next-next.ensures.nodes.counted c.in-Some.is c.loop-next.invariant.within c.next-next.ensures.sibling in
+    omega (arith, ap length step)
 
 pub loop-next-preserved : goal.loop-next-preserved
-loop-next-preserved c =
-    let step = siblings-on c.args.self.now.made c.args.self.now.trees c.next-next.ensures.nodes.counted c.loop-next.next c.next-next.result c.in-Some.node c.in-Some.is c.loop-next.invariant.within c.next-next.ensures.sibling in
-    let other : is_element c.args.self.now.trees c.in-Some.node ≡ false = ap is_some (sym c.name.ensures) ∙ sym c.is_some.ensures ∙ c.if-is_some.false in
-    record {
-      within = c.next-next.ensures.within;
-      same = c.loop-next.invariant.same ∙ ap (λ ns. elements_among ns c.args.self.now.trees) step
-          ∙ element-or c.args.self.now.trees c.in-Some.node (siblings_from c.next-next.result c.args.self.now.trees) other;
-    }
+loop-next-preserved c = let f = c.args.self.now.trees in
+    let step = siblings-on c.next-next.ensures.nodes.counted c.in-Some.is c.loop-next.invariant.within c.next-next.ensures.sibling in
+    let other : is_element f c.in-Some.node ≡ false = ap is_some (sym c.name.ensures) ∙ sym c.is_some.ensures ∙ c.if-is_some.false in
+    let on = element-or f c.in-Some.node (siblings_from c.next-next.result f) other in
+    record { within = c.next-next.ensures.within; same = c.loop-next.invariant.same ∙ ap (λ ns. elements_among ns f) step ∙ on }

@@ -4,30 +4,25 @@ use Rattle.hnodes.proofs.tree.Tree.make.Goals as goal
 
 pub invariant_of-self : goal.invariant_of-self
 invariant_of-self c =
-    let o = opened c.self.inside c.args.self.now c.self.view_is c.self.invariant in
-    edited o (grew c.self.inside c.args.self.now c.content.new.store o c.content.ensures.grown)
+    let o = opened c.self.inside c.args.self.now c.self.view_is c.self.invariant in edited o (grew o c.content.ensures.grown)
 
 pub returns-in_err-content : goal.returns-in_err-content
-returns-in_err-content c =
-    makes_nothing c.self.inside c.args.self.now c.content.new.store _ c.args.at c.from_residual.result (opened c.self.inside c.args.self.now c.self.view_is c.self.invariant) c.content.ensures.grown (search rules)
-    c.from_residual.ensures.1
+returns-in_err-content c = makes_nothing _ c.args.at c.from_residual.result (opened c.self.inside c.args.self.now c.self.view_is c.self.invariant)
+    c.content.ensures.grown (search rules) c.from_residual.ensures.1
 
 pub invariant_of-self-in_err-push : goal.invariant_of-self-in_err-push
 invariant_of-self-in_err-push c =
-    let o = opened c.self.inside c.args.self.now c.self.view_is c.self.invariant in
-    rw c.in_err-push.ensures.items (edited o (grew c.self.inside c.args.self.now c.content.new.store o c.content.ensures.grown))
+    let o = opened c.self.inside c.args.self.now c.self.view_is c.self.invariant in rw c.in_err-push.ensures.items (edited o (grew o c.content.ensures.grown))
 
 pub returns-in_err-push : goal.returns-in_err-push
-returns-in_err-push c =
-    rw c.in_err-push.ensures.items (makes_nothing c.self.inside c.args.self.now c.content.new.store _ c.args.at c.from_residual-in_err-push.result (opened c.self.inside c.args.self.now c.self.view_is c.self.invariant)
-    c.content.ensures.grown (search rules) c.from_residual-in_err-push.ensures.1)
+returns-in_err-push c = rw c.in_err-push.ensures.items (makes_nothing _ c.args.at c.from_residual-in_err-push.result
+    (opened c.self.inside c.args.self.now c.self.view_is c.self.invariant) c.content.ensures.grown (search rules) c.from_residual-in_err-push.ensures.1)
 
 pub invariant_of-self-2 : goal.invariant_of-self-2
-invariant_of-self-2 c =
-    rw c.in_ok-push.ensures.items (added c.self.inside c.args.self.now c.content.new.store c.in_ok-content.content c.loose.result (given_is c.args.given)
-    (opened c.self.inside c.args.self.now c.self.view_is c.self.invariant) c.content.ensures.grown c.in_ok-content.ensures.content c.loose.ensures (search rules))
+invariant_of-self-2 c = let o = opened c.self.inside c.args.self.now c.self.view_is c.self.invariant in rw c.in_ok-push.ensures.items
+    (added (given_is c.args.given) o c.content.ensures.grown c.in_ok-content.ensures.content c.loose.ensures (search rules))
 
 pub returns : goal.returns
-returns c =
-    rw c.in_ok-push.ensures.items (makes c.self.inside c.args.self.now c.content.new.store c.in_ok-content.content c.loose.result (given_is c.args.given)
-    (opened c.self.inside c.args.self.now c.self.view_is c.self.invariant) c.content.ensures.grown c.in_ok-content.ensures.content c.loose.ensures c.args.at c.len-number.result (search rules) (search rules))
+returns c = let o = opened c.self.inside c.args.self.now c.self.view_is c.self.invariant in
+    rw c.in_ok-push.ensures.items (makes (given_is c.args.given) o c.content.ensures.grown c.in_ok-content.ensures.content c.loose.ensures c.args.at
+    c.len-number.result (search rules) (search rules))
