@@ -1,8 +1,7 @@
 -- The classes of texts, by their first characters. Each production of data is at the front of one class.
-use Rattle.htoken.proofs.Names.{arith, nat_tests, ◌≡◌, ℕ, Bool, true, false, not, ◌||◌, eqb, List, [], ◌∷◌, ◌++◌, sym, refl, ap, ◌∙◌, subst, codes, eqb-true, false≢true, to_ascii_lowercase, Placed, characters, lowered, begins, spells, spells_in_any_case, is_letter, is_greater, and_parts, and_both, first_is, is_cdata, is_declaration}
-use Rattle.htoken.specs.Data.{is_no_markup}
+use Rattle.htoken.proofs.Names.{arith, nat_tests, ◌≡◌, ℕ, Bool, true, false, not, ◌||◌, eqb, List, [], ◌∷◌, ◌++◌, sym, refl, ap, ◌∙◌, subst, codes, eqb-true, false≢true, to_ascii_lowercase, Placed, characters, lowered, begins, spells, spells_in_any_case, is_letter, is_greater, and_parts, and_both, first_is, is_cdata, is_declaration, is_no_markup}
 use Rattle.htoken.proofs.OneTag.{Side, Opens, Ends, mark_of}
-use Rattle.htoken.proofs.OneValue.{lower_is}
+use Rattle.htoken.proofs.Words.{lower_is}
 
 pub data Class : Type 0 where
   -- nothing at all
@@ -101,11 +100,7 @@ dashes_class : (r s : Placed) (rest : List Placed) → r.ch ≡ 45 → s.ch ≡ 
 dashes_class r s rest h k = rw (h, k) refl
 
 pub opens_comment : (opening rest : List Placed) → characters opening ≡ codes "<!--" → class_of (opening ++ rest) ≡ AComment
-opens_comment (p ∷ q ∷ r ∷ s ∷ []) rest h =
-    let is : p.ch ≡ 60 = cc in
-    let then : q.ch ≡ 33 = cc in
-    let dash : r.ch ≡ 45 = cc in
-    let other : s.ch ≡ 45 = cc in
+opens_comment (p ∷ q ∷ r ∷ s ∷ []) rest h = let is : p.ch ≡ 60 = cc in let then : q.ch ≡ 33 = cc in let dash : r.ch ≡ 45 = cc in let other : s.ch ≡ 45 = cc in
     past_bang p q (r ∷ s ∷ rest) is then ∙ dashes_class r s rest dash other
 opens_comment _ rest h = absurd cc
 
@@ -119,22 +114,21 @@ low_tail x xs c cs h = let a : to_ascii_lowercase x.ch ≡ c = cc in let b : low
 pub opens_doctype : (opening rest : List Placed) → lowered opening ≡ codes "<!doctype" → class_of (opening ++ rest) ≡ ADoctype
 opens_doctype [] rest h = absurd cc
 opens_doctype (p ∷ []) rest h = let k = low_tail p [] 60 (codes "!doctype") h in let never : lowered [] ≡ codes "!doctype" = k.1 in absurd cc
-opens_doctype (p ∷ q ∷ ps) rest h =
-    let k = low_tail p (q ∷ ps) 60 (codes "!doctype") h in
-    let l = low_tail q ps 33 (codes "doctype") k.1 in
+opens_doctype (p ∷ q ∷ ps) rest h = let k = low_tail p (q ∷ ps) 60 (codes "!doctype") h in let l = low_tail q ps 33 (codes "doctype") k.1 in
     past_bang p q (ps ++ rest) (lower_is p.ch 60 k.0 refl) (lower_is q.ch 33 l.0 refl)
-    ∙ ap (λ (b : Bool). class_declaration b (spells (codes "--") (ps ++ rest)) (is_cdata (ps ++ rest))) (subst (λ (cs : List ℕ). spells_in_any_case cs (ps ++ rest) ≡ true) l.1 (spells_low ps rest))
+    ∙ ap (λ (b : Bool). class_declaration b (spells (codes "--") (ps ++ rest)) (is_cdata (ps ++ rest)))
+    (subst (λ (cs : List ℕ). spells_in_any_case cs (ps ++ rest) ≡ true) l.1 (spells_low ps rest))
 
 -- what follows it
 pub spells_more : (cs : List ℕ) (xs ys : List Placed) → spells cs xs ≡ true → spells cs (xs ++ ys) ≡ true
 spells_more [] xs ys h = refl
 spells_more (c ∷ cs) [] ys h = absurd (false≢true h)
-spells_more (c ∷ cs) (x ∷ xs) ys h = let k = and_parts (eqb x.ch c) (spells cs xs) h in and_both (eqb x.ch c) (spells cs (xs ++ ys)) k.0 (spells_more cs xs ys k.1)
+spells_more (c ∷ cs) (x ∷ xs) ys h = let k = and_parts (eqb x.ch c) (spells cs xs) h in
+    and_both (eqb x.ch c) (spells cs (xs ++ ys)) k.0 (spells_more cs xs ys k.1)
 
 pub cdata_follows : (text : List Placed) → is_cdata text ≡ true → class_bang text ≡ BogusCdata
 cdata_follows [] h = absurd (false≢true h)
-cdata_follows (p ∷ ps) h =
-    let k = and_parts (eqb p.ch 91) (spells (codes "CDATA[") ps) h in rw (eqb-true p.ch 91 k.0, k.1) refl
+cdata_follows (p ∷ ps) h = let k = and_parts (eqb p.ch 91) (spells (codes "CDATA[") ps) h in rw (eqb-true p.ch 91 k.0, k.1) refl
 
 pub cdata_more : (body rest : List Placed) → is_cdata body ≡ true → class_bang (body ++ rest) ≡ BogusCdata
 cdata_more body rest h = cdata_follows (body ++ rest) (spells_more (codes "[CDATA[") body rest h)
@@ -175,6 +169,7 @@ solidus_and_end_follow (p ∷ []) h = let is : p.ch ≡ 47 = cc in ap (λ (c : �
 solidus_and_end_follow _ h = absurd cc
 
 -- a tag's mark and a letter
-pub tag_class : (side : Side) (opening rest : List Placed) → characters opening ≡ mark_of side → begins is_letter rest ≡ true → class_of (opening ++ rest) ≡ ATag side
+pub tag_class : (side : Side) (opening rest : List Placed) → characters opening ≡ mark_of side → begins is_letter rest ≡ true
+    → class_of (opening ++ rest) ≡ ATag side
 tag_class Opens opening rest h k = opens_less opening rest h ∙ letter_follows rest k
 tag_class Ends opening rest h k = opens_solidus opening rest h ∙ letter_ends rest k

@@ -37,14 +37,16 @@ module _ (read : ℕ → ℕ) where
   long (c ∷ cs) (p ∷ ps) more l = ap (λ (b : Bool). eqb (read p.ch) c && b) (long cs ps more (omega (arith, l)))
 
   -- one that ends with the word's last character
-  whole : (cs : List ℕ) (text : List Placed) (p : Placed) → spelled read cs text ≡ false → spelled read cs (text ++ p ∷ []) ≡ true → map (λ q. read q.ch) (text ++ p ∷ []) ≡ cs
+  whole : (cs : List ℕ) (text : List Placed) (p : Placed) → spelled read cs text ≡ false → spelled read cs (text ++ p ∷ []) ≡ true
+      → map (λ q. read q.ch) (text ++ p ∷ []) ≡ cs
   whole [] text p none all = absurd cc
   whole (c ∷ []) [] p none all = grind (arith, nat_tests)
   whole (c ∷ d ∷ cs) [] p none all = absurd (grind arith)
   whole (c ∷ cs) (x ∷ xs) p none all = grind (arith, nat_tests, whole cs xs p)
 
   -- a character that is not in the word
-  pub past : (cs : List ℕ) (text : List Placed) (p : Placed) (more : List Placed) → list_all (λ c. not (eqb (read p.ch) c)) cs ≡ true → spelled read cs text ≡ false → spelled read cs (text ++ p ∷ more) ≡ false
+  pub past : (cs : List ℕ) (text : List Placed) (p : Placed) (more : List Placed) → list_all (λ c. not (eqb (read p.ch) c)) cs ≡ true
+      → spelled read cs text ≡ false → spelled read cs (text ++ p ∷ more) ≡ false
   past [] text p more other none = absurd cc
   past (c ∷ cs) [] p more other none = grind (arith, nat_tests)
   past (c ∷ cs) (x ∷ xs) p more other none = grind (arith, nat_tests, past cs xs p more)
@@ -57,22 +59,24 @@ record NoMark (text : List Placed) : Type 0 where
   no_doctype : spelled to_ascii_lowercase (codes "doctype") text ≡ false
   no_cdata : spelled (λ c. c) (codes "[CDATA[") text ≡ false
 
-marks : (text : List Placed) → is_declaration text ≡ (spelled (λ c. c) (codes "--") text || spelled to_ascii_lowercase (codes "doctype") text || spelled (λ c. c) (codes "[CDATA[") text)
+marks : (text : List Placed)
+    → is_declaration text ≡ (spelled (λ c. c) (codes "--") text || spelled to_ascii_lowercase (codes "doctype") text || spelled (λ c. c) (codes "[CDATA[") text)
 marks text = rw (as_it_is (codes "--") text, in_any_case (codes "doctype") text, as_it_is (codes "[CDATA[") text) refl
 
 no_mark : (text : List Placed) → is_declaration text ≡ false → NoMark text
-no_mark text none = parts (spelled (λ c. c) (codes "--") text) (spelled to_ascii_lowercase (codes "doctype") text) (spelled (λ c. c) (codes "[CDATA[") text) refl refl refl (sym (marks text) ∙ none) where
-  parts : (a b c : Bool) → spelled (λ c. c) (codes "--") text ≡ a → spelled to_ascii_lowercase (codes "doctype") text ≡ b → spelled (λ c. c) (codes "[CDATA[") text ≡ c → (a || b || c) ≡ false → NoMark text
-  parts false false false a b c h = record { no_dashes = a; no_doctype = b; no_cdata = c }
-  parts _ _ _ a b c h = absurd (grind arith)
+no_mark text none = parts (spelled (λ c. c) (codes "--") text) (spelled to_ascii_lowercase (codes "doctype") text) (spelled (λ c. c) (codes "[CDATA[") text)
+    refl refl refl (sym (marks text) ∙ none) where
+      parts : (a b c : Bool) → spelled (λ c. c) (codes "--") text ≡ a → spelled to_ascii_lowercase (codes "doctype") text ≡ b
+          → spelled (λ c. c) (codes "[CDATA[") text ≡ c → (a || b || c) ≡ false → NoMark text
+      parts false false false a b c h = record { no_dashes = a; no_doctype = b; no_cdata = c }
+      parts _ _ _ a b c h = absurd (grind arith)
 
 none_is : (text : List Placed) → NoMark text → is_declaration text ≡ false
 none_is text n = marks text ∙ rw (n.no_dashes, n.no_doctype, n.no_cdata) refl
 
 -- with what follows it
 pub bogus_goes_on : (text more : List Placed) → 7 ≤ length text → is_declaration text ≡ false → is_declaration (text ++ more) ≡ false
-bogus_goes_on text more l none =
-    let n = no_mark text none in
+bogus_goes_on text more l none = let n = no_mark text none in
     none_is (text ++ more) (record {
       no_dashes = long _ (codes "--") text more (omega (arith, l)) ∙ n.no_dashes;
       no_doctype = long _ (codes "doctype") text more l ∙ n.no_doctype;
@@ -80,9 +84,9 @@ bogus_goes_on text more l none =
     })
 
 -- with a character after it that no mark has
-pub bogus_at : (text : List Placed) (p : Placed) (more : List Placed) → is_declaration text ≡ false → is_plain_in_bogus p.ch ≡ false → is_declaration (text ++ p ∷ more) ≡ false
-bogus_at text p more none other =
-    let n = no_mark text none in
+pub bogus_at : (text : List Placed) (p : Placed) (more : List Placed) → is_declaration text ≡ false → is_plain_in_bogus p.ch ≡ false
+    → is_declaration (text ++ p ∷ more) ≡ false
+bogus_at text p more none other = let n = no_mark text none in
     none_is (text ++ p ∷ more) (record {
       no_dashes = past _ (codes "--") text p more (grind (arith, nat_tests)) n.no_dashes;
       no_doctype = past _ (codes "doctype") text p more (grind (arith, nat_tests)) n.no_doctype;
@@ -90,19 +94,24 @@ bogus_at text p more none other =
     })
 
 -- with one more plain character
-module _ (text : List Placed) (p : Placed) (o : OpensNothing text) where
+module _ {text : List Placed} (p : Placed) (o : OpensNothing text) where
   pub nothing_yet : is_plain_in_bogus p.ch ≡ true → OpensAs opens.Nothing (text ++ p ∷ []) → OpensNothing (text ++ p ∷ [])
   nothing_yet plain (few, none) = record {
     few = few;
     plain = all-one is_plain_in_bogus text p o.plain plain;
-    none = none_is (text ++ p ∷ []) (record { no_dashes = sym (as_it_is (codes "--") (text ++ p ∷ [])) ∙ none; no_doctype = short _ (codes "doctype") (text ++ p ∷ []) few; no_cdata = short _ (codes "[CDATA[") (text ++ p ∷ []) few });
+    none = none_is (text ++ p ∷ []) (record {
+      no_dashes = sym (as_it_is (codes "--") (text ++ p ∷ [])) ∙ none;
+      no_doctype = short _ (codes "doctype") (text ++ p ∷ []) few;
+      no_cdata = short _ (codes "[CDATA[") (text ++ p ∷ []) few;
+    });
   }
 
   pub whole_dashes : OpensAs opens.Comment (text ++ p ∷ []) → characters (text ++ p ∷ []) ≡ codes "--"
   whole_dashes is = whole (λ c. c) (codes "--") text p (no_mark text o.none).no_dashes (sym (as_it_is (codes "--") (text ++ p ∷ [])) ∙ is)
 
   pub whole_doctype : OpensAs opens.Doctype (text ++ p ∷ []) → lowered (text ++ p ∷ []) ≡ codes "doctype"
-  whole_doctype is = whole to_ascii_lowercase (codes "doctype") text p (no_mark text o.none).no_doctype (sym (in_any_case (codes "doctype") (text ++ p ∷ [])) ∙ is)
+  whole_doctype is =
+      whole to_ascii_lowercase (codes "doctype") text p (no_mark text o.none).no_doctype (sym (in_any_case (codes "doctype") (text ++ p ∷ [])) ∙ is)
 
 -- a whole mark begins the text
 pub cdata_goes_on : (text more : List Placed) → is_cdata text ≡ true → is_cdata (text ++ more) ≡ true
@@ -119,10 +128,9 @@ place_first end (x ∷ xs) p more = refl
 pub too_short : (any_case : Bool) (word : List ℕ) (text : List Placed) → length text < length word → spells_as any_case word text ≡ false
 too_short any_case word text l = in_case any_case word text ∙ short (read_as any_case) word text l
 
-pub plain_take : (ps : List Placed) (i : ℕ) (d : Placed) → i < length ps → is_plain_in_bogus (get_or ps i d).ch ≡ true → all is_plain_in_bogus (take i ps) ≡ true → all is_plain_in_bogus (take (i + 1) ps) ≡ true
-plain_take ps i d l one h =
-    let more : i + 1 ≡ suc i = omega arith in
-    rw (more, take-suc ps i d l) (all-one is_plain_in_bogus (take i ps) (get_or ps i d) h one)
+pub plain_take : (ps : List Placed) (i : ℕ) (d : Placed) → i < length ps → is_plain_in_bogus (get_or ps i d).ch ≡ true
+    → all is_plain_in_bogus (take i ps) ≡ true → all is_plain_in_bogus (take (i + 1) ps) ≡ true
+plain_take ps i d l one h = let more : i + 1 ≡ suc i = omega arith in rw (more, take-suc ps i d l) (all-one is_plain_in_bogus (take i ps) (get_or ps i d) h one)
 
 pub plain_at : (ps : List Placed) (i : ℕ) (d : Placed) → i < length ps → all is_plain_in_bogus ps ≡ true → is_plain_in_bogus (get_or ps i d).ch ≡ true
 plain_at [] i d l h = absurd (omega arith)

@@ -23,7 +23,7 @@ fn count_data(run: &str) -> usize
 }
 
 impl<'t> Tokenizer<'t> {
-    /// Takes a run of clean characters, the first byte of which is at `place`. It is the same as feeding them one by one.
+    /// Takes a run of clean characters, the first byte of which is at `at`. It is the same as feeding them one by one.
     pub fn feed_run<S: TokenSink>(
         &mut self,
         names: &mut Names,
@@ -52,7 +52,7 @@ impl<'t> Tokenizer<'t> {
         answer
     }
 
-    /// Takes the characters that replace this many bad parts of one byte each, the first of which is at `place`. It is the same as
+    /// Takes the characters that replace this many bad parts of one byte each, the first of which is at `at`. It is the same as
     /// feeding them one by one.
     pub fn feed_bad<S: TokenSink>(
         &mut self,

@@ -1,5 +1,4 @@
-use Rattle.htoken.proofs.OneData.{one_data_span}
-use Rattle.htoken.proofs.OneSpan.{one_span}
+use Rattle.htoken.proofs.OneSpan.{one_span, one_data_span}
 use Rattle.htoken.proofs.cuts.one_span.Goals as goal
 
 pub returns-clause-in_data : goal.returns-clause-in_data

@@ -1,5 +1,5 @@
 use Rattle.htoken.proofs.OnePart.{one_part}
-use Rattle.htoken.proofs.OneData.{one_tag}
+use Rattle.htoken.proofs.OneSpan.{one_tag}
 use Rattle.htoken.proofs.cuts.one_tag.Goals as goal
 
 pub returns-clause-parts : goal.returns-clause-parts

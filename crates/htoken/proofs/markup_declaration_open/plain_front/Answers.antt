@@ -7,4 +7,5 @@ returns-then-not-is_plain-clause-whole c = λ plain.
     absurd (true≢false (sym (plain_at c.args.text.now c.loop-index.index _ c.loop-index-test.true plain) ∙ sym c.is_plain.ensures ∙ c.if-not-is_plain.true))
 
 pub loop-index-preserved : goal.loop-index-preserved
-loop-index-preserved c = plain_take c.args.text.now c.loop-index.index _ c.loop-index-test.true (sym c.is_plain.ensures ∙ c.if-not-is_plain.false) c.loop-index.invariant
+loop-index-preserved c =
+    plain_take c.args.text.now c.loop-index.index _ c.loop-index-test.true (sym c.is_plain.ensures ∙ c.if-not-is_plain.false) c.loop-index.invariant

@@ -1,8 +1,8 @@
-use Rattle.htoken.proofs.Names.{ℕ, List, ap, ◌∙◌, chars, list_all, is_clean, clean_rest, IsCharBoundary-from_drop}
+use Rattle.htoken.proofs.Names.{clean_rest, IsCharBoundary-from_drop}
 use Rattle.htoken.proofs.clean_run.Run.after.Goals as goal
 
 pub range_from-requires : goal.range_from-requires
 range_from-requires c = λ _. IsCharBoundary-from_drop c.args.self.now.text.now c.args.count c.requires.within c.requires.back
 
 pub invariant_of-result-clause-clean : goal.invariant_of-result-clause-clean
-invariant_of-result-clause-clean c = ap (λ (x : List ℕ). list_all is_clean (chars x)) c.range_from.ensures.value ∙ (clean_rest c.args.count c.args.self.now.text.now c.requires c.args.self.now.clean).1
+invariant_of-result-clause-clean c = cc (c.range_from.ensures.value, (clean_rest c.args.count c.args.self.now.text.now c.requires c.args.self.now.clean).1)

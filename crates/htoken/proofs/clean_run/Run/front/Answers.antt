@@ -5,5 +5,5 @@ pub range-requires-clause-end_boundary : goal.range-requires-clause-end_boundary
 range-requires-clause-end_boundary c = IsCharBoundary-from_drop c.args.self.now.text.now c.args.count c.requires.within c.requires.back
 
 pub invariant_of-result-clause-clean : goal.invariant_of-result-clause-clean
-invariant_of-result-clause-clean c =
-    ap (λ (x : List ℕ). list_all is_clean (chars x)) (c.range.ensures.value ∙ front_of c.args.count c.args.self.now.text.now) ∙ (clean_rest c.args.count c.args.self.now.text.now c.requires c.args.self.now.clean).0
+invariant_of-result-clause-clean c = ap (λ (x : List ℕ). list_all is_clean (chars x)) (c.range.ensures.value ∙ front_of c.args.count c.args.self.now.text.now)
+    ∙ (clean_rest c.args.count c.args.self.now.text.now c.requires c.args.self.now.clean).0

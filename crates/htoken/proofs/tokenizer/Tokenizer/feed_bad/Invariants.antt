@@ -5,8 +5,9 @@ use Rattle.htoken.proofs.tokenizer.Tokenizer.feed_bad.Given as goal
 abbrev pub invariant-loop-fed : goal.invariant-loop-fed
 invariant-loop-fed g l = record {
   few : l.fed ≤ l.count;
-  takes : (table : Entities) (start : RawKind) (before : Texts) (text : List Placed) (taken : List Event) → Grows before l.fn.names → HasTaken table start l.fn.self before text taken
-      → Takes (gives_item g.S.ErrorSink.gives g.S.TokenSink.gives_token) table start text (replacement_run l.fn.at l.fed) taken l.names l.fn.sink (Ok tt) l.sink l.self;
+  takes : (table : Entities) (start : RawKind) (before : Texts) (text : List Placed) (taken : List Event) → Grows before l.fn.names
+      → HasTaken table start l.fn.self before text taken → Takes (gives_item g.S.ErrorSink.gives g.S.TokenSink.gives_token) table start text
+      (replacement_run l.fn.at l.fed) taken l.names l.fn.sink (Ok tt) l.sink l.self;
   grows : Grows l.fn.names l.names;
 }
 

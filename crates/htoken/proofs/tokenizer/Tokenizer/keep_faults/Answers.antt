@@ -2,11 +2,13 @@ use Rattle.htoken.proofs.Names.{◌≡◌, Bool, List, ◌++◌, refl, ap, ◌�
 use Rattle.htoken.proofs.InMarkup.{keeps, kept, refused}
 use Rattle.htoken.proofs.tokenizer.Tokenizer.keep_faults.Goals as goal
 
-faults_kept : (t : Tokenizer) (mid new : Raised) (any closing : Bool) (answer : Result (Unit {0}) Refusal) → any ≡ t.tag.any → closing ≡ t.tag.closing → Hands keeps t.raised (error_if any EndTagWithAttributes t.at) (Ok tt) mid
-    → Hands keeps mid (error_if closing EndTagWithTrailingSolidus t.at) answer new → MatchResult answer (λ _. KeepsFaults t (record t { raised = new })) (λ e. e ≡ Memory)
+faults_kept : (t : Tokenizer) (mid new : Raised) (any closing : Bool) (answer : Result (Unit {0}) Refusal) → any ≡ t.tag.any → closing ≡ t.tag.closing
+    → Hands keeps t.raised (error_if any EndTagWithAttributes t.at) (Ok tt) mid → Hands keeps mid (error_if closing EndTagWithTrailingSolidus t.at) answer new
+    → MatchResult answer (λ _. KeepsFaults t (record t { raised = new })) (λ e. e ≡ Memory)
 faults_kept t mid new any closing (Ok u) any_is closing_is first second = record {
   then = refl;
-  raised_is = kept mid new _ second ∙ ap (λ (x : List ParseError). x ++ error_if closing EndTagWithTrailingSolidus t.at) (kept t.raised mid _ first) ∙ append_assoc t.raised.errors.items (error_if any EndTagWithAttributes t.at) _
+  raised_is = kept mid new _ second ∙ ap (λ (x : List ParseError). x ++ error_if closing EndTagWithTrailingSolidus t.at) (kept t.raised mid _ first)
+      ∙ append_assoc t.raised.errors.items (error_if any EndTagWithAttributes t.at) _
       ∙ ap (λ (x : Bool). t.raised.errors.items ++ (error_if x EndTagWithAttributes t.at ++ error_if closing EndTagWithTrailingSolidus t.at)) any_is
       ∙ ap (λ (x : Bool). t.raised.errors.items ++ (error_if t.tag.any EndTagWithAttributes t.at ++ error_if x EndTagWithTrailingSolidus t.at)) closing_is;
 }

@@ -1,44 +1,45 @@
-use Rattle.htoken.proofs.Names.{◌++◌, ◌∙◌, [], List, refl, sym, ap, subst, take, chars, placed, Placed, grows_on, gives_item, after_last, err_is}
-use Rattle.htoken.proofs.Fronts.{cut_refused, placed_same}
-use Rattle.htoken.proofs.InRun.{tag_finishes, tag_goes_on, tag_read, tag_stopped}
-use Rattle.htoken.proofs.Taking.{IsCalm, taken_now}
+use Rattle.htoken.proofs.Names.{◌++◌, ◌∙◌, [], List, refl, sym, ap, subst, take, chars, placed, Placed, grows_on, after_last, err_is}
+use Rattle.htoken.proofs.Fronts.{cut_refused, placed_same, IsCalm, taken_now, tag_finishes, tag_goes_on, tag_read, tag_stopped}
 use Rattle.htoken.proofs.tokenizer.Tokenizer.part_of_tag.Goals as goal
 
 pub returns-in_err-count-clause-takes : goal.returns-in_err-count-clause-takes
-returns-in_err-count-clause-takes g c =
-    rw (err_is c.from_residual.result _ c.from_residual.ensures.1) (λ table start before text taken grows h.
-    let k = taken_now table start c.args.self.now before c.args.names.now text taken (subst IsCalm (sym c.requires.tag) tt) grows h in
-    tag_stopped g.S.ErrorSink.gives g.S.TokenSink.gives_token table start c.args.names.now c.take_run.new.names c.take_run.ensures.grows text taken c.args.self.now k c.requires.tag (placed c.args.run.now.at (chars c.args.run.now.text.now)) _ _ _
-    (c.in_err-count.ensures.takes _ (tag_read g.S.ErrorSink.gives g.S.TokenSink.gives_token table start c.args.names.now c.take_run.new.names c.take_run.ensures.grows text taken c.args.self.now k c.requires.tag [])))
+returns-in_err-count-clause-takes g c = rw (err_is c.from_residual.result _ c.from_residual.ensures.1) (λ table start before text taken grows h.
+    let k = taken_now c.args.names.now (subst IsCalm (sym c.requires.tag) tt) grows h in
+    tag_stopped g.S.ErrorSink.gives g.S.TokenSink.gives_token _ c.take_run.ensures.grows k c.requires.tag _ _ _ _
+    (c.in_err-count.ensures.takes _ (tag_read g.S.ErrorSink.gives g.S.TokenSink.gives_token c.take_run.new.names c.take_run.ensures.grows k c.requires.tag [])))
 
 pub returns-clause-takes : goal.returns-clause-takes
 returns-clause-takes g c = λ table start before text taken grows h.
-    let run = c.args.run.now.text.now in
-    let count = c.in_ok-count.count in
-    let k = taken_now table start c.args.self.now before c.args.names.now text taken (subst IsCalm (sym c.requires.tag) tt) grows h in
+    let run = c.args.run.now.text.now in let count = c.in_ok-count.count in let k = taken_now c.args.names.now (subst IsCalm (sym c.requires.tag) tt) grows h in
     let t = record c.args.self.now { next = c.end-self.result; tag = c.take_run.new.self; raised = record { errors = c.take_run.new.errors } } in
     let next = c.end-self.ensures text ∙ ap (λ (ps : List Placed). after_last (text ++ ps)) (placed_same c.front.ensures.text c.front.ensures.at) in
-    tag_goes_on g.S.ErrorSink.gives g.S.TokenSink.gives_token table start c.args.names.now c.take_run.new.names c.take_run.ensures.grows text taken c.args.self.now k c.requires.tag (placed c.args.run.now.at (chars (take count run))) t (record { kind_is = refl; last_is = refl; at_is = refl; stays = (refl, refl, next) }) refl c.in_ok-count.ensures.kind
-    (rw c.if-ended.false at (c.in_ok-count.ensures.takes _ (tag_read g.S.ErrorSink.gives g.S.TokenSink.gives_token table start c.args.names.now c.take_run.new.names c.take_run.ensures.grows text taken c.args.self.now k c.requires.tag []))) c.args.sink.now
+    tag_goes_on g.S.ErrorSink.gives g.S.TokenSink.gives_token _ c.take_run.ensures.grows k c.requires.tag _ t
+    (record { kind_is = refl; last_is = refl; at_is = refl; stays = (refl, refl, next) }) refl c.in_ok-count.ensures.kind (rw c.if-ended.false at
+    (c.in_ok-count.ensures.takes _ (tag_read g.S.ErrorSink.gives g.S.TokenSink.gives_token c.take_run.new.names c.take_run.ensures.grows k c.requires.tag [])))
+    _
 
 pub returns-then-ended-clause-takes : goal.returns-then-ended-clause-takes
 returns-then-ended-clause-takes g c = λ table start before text taken grows h.
-    let run = c.args.run.now.text.now in
-    let count = c.in_ok-count.count in
-    let k = taken_now table start c.args.self.now before c.args.names.now text taken (subst IsCalm (sym c.requires.tag) tt) grows h in
+    let run = c.args.run.now.text.now in let count = c.in_ok-count.count in let k = taken_now c.args.names.now (subst IsCalm (sym c.requires.tag) tt) grows h in
     let t = record c.args.self.now { next = c.end-self.result; tag = c.take_run.new.self; raised = record { errors = c.take_run.new.errors } } in
-    tag_finishes g.S.ErrorSink.gives g.S.TokenSink.gives_token table start c.args.names.now c.end_tag.new.names (grows_on _ _ _ c.take_run.ensures.grows c.end_tag.ensures.grows) text taken c.args.self.now k c.requires.tag (placed c.args.run.now.at (chars (take count run)))
-    t (record { kind_is = refl; last_is = refl; at_is = refl; stays = (refl, refl, c.end-self.ensures text ∙ ap (λ (ps : List Placed). after_last (text ++ ps)) (placed_same c.front.ensures.text c.front.ensures.at)) }) c.in_ok-count.ensures.kind c.take_run.new.names c.end_tag.ensures.grows
-    (rw c.if-ended.true at (c.in_ok-count.ensures.takes _ (tag_read g.S.ErrorSink.gives g.S.TokenSink.gives_token table start c.args.names.now c.take_run.new.names c.take_run.ensures.grows text taken c.args.self.now k c.requires.tag []))) _ _ _ _ c.in_ok-end_tag.ensures.tag
+    tag_finishes g.S.ErrorSink.gives g.S.TokenSink.gives_token _ (grows_on _ _ _ c.take_run.ensures.grows c.end_tag.ensures.grows) k c.requires.tag _ t
+    (record {
+      kind_is = refl;
+      last_is = refl;
+      at_is = refl;
+      stays = (refl, refl, cc (c.end-self.ensures text, placed_same c.front.ensures.text c.front.ensures.at));
+    }) c.in_ok-count.ensures.kind c.take_run.new.names c.end_tag.ensures.grows (rw c.if-ended.true at
+    (c.in_ok-count.ensures.takes _ (tag_read g.S.ErrorSink.gives g.S.TokenSink.gives_token c.take_run.new.names c.take_run.ensures.grows k c.requires.tag [])))
+    _ _ _ _ c.in_ok-end_tag.ensures.tag
 
 pub returns-in_err-end_tag-clause-takes : goal.returns-in_err-end_tag-clause-takes
 returns-in_err-end_tag-clause-takes g c =
     rw (err_is c.from_residual-in_err-end_tag.result _ c.from_residual-in_err-end_tag.ensures.1) (λ table start before text taken grows h.
-    let run = c.args.run.now.text.now in
-    let count = c.in_ok-count.count in
-    let k = taken_now table start c.args.self.now before c.args.names.now text taken (subst IsCalm (sym c.requires.tag) tt) grows h in
+    let run = c.args.run.now.text.now in let count = c.in_ok-count.count in let k = taken_now c.args.names.now (subst IsCalm (sym c.requires.tag) tt) grows h in
     let t = record c.args.self.now { next = c.end-self.result; tag = c.take_run.new.self; raised = record { errors = c.take_run.new.errors } } in
-    cut_refused (gives_item g.S.ErrorSink.gives g.S.TokenSink.gives_token) table start text c.args.run.now.at count run c.in_ok-count.ensures.cut taken _ _ _ _ _ _
-    (tag_finishes g.S.ErrorSink.gives g.S.TokenSink.gives_token table start c.args.names.now c.end_tag.new.names (grows_on _ _ _ c.take_run.ensures.grows c.end_tag.ensures.grows) text taken c.args.self.now k c.requires.tag (placed c.args.run.now.at (chars (take count run)))
-    t (record { kind_is = refl; last_is = refl; at_is = refl; stays = (refl, refl, c.end-self.ensures text ∙ ap (λ (ps : List Placed). after_last (text ++ ps)) (placed_same c.front.ensures.text c.front.ensures.at)) }) c.in_ok-count.ensures.kind c.take_run.new.names c.end_tag.ensures.grows
-    (rw c.if-ended.true at (c.in_ok-count.ensures.takes _ (tag_read g.S.ErrorSink.gives g.S.TokenSink.gives_token table start c.args.names.now c.take_run.new.names c.take_run.ensures.grows text taken c.args.self.now k c.requires.tag []))) _ _ _ _ c.in_err-end_tag.ensures.tag))
+    cut_refused c.args.run.now.at c.in_ok-count.ensures.cut (tag_finishes g.S.ErrorSink.gives g.S.TokenSink.gives_token c.end_tag.new.names
+    (grows_on _ _ _ c.take_run.ensures.grows c.end_tag.ensures.grows) k c.requires.tag (placed c.args.run.now.at (chars (take count run))) t (record
+    { kind_is = refl; last_is = refl; at_is = refl; stays = (refl, refl, cc (c.end-self.ensures text, placed_same c.front.ensures.text c.front.ensures.at)) })
+    c.in_ok-count.ensures.kind c.take_run.new.names c.end_tag.ensures.grows (rw c.if-ended.true at
+    (c.in_ok-count.ensures.takes _ (tag_read g.S.ErrorSink.gives g.S.TokenSink.gives_token c.take_run.new.names c.take_run.ensures.grows k c.requires.tag [])))
+    _ _ _ _ c.in_err-end_tag.ensures.tag))

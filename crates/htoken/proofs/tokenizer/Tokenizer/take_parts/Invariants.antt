@@ -4,8 +4,9 @@ use Rattle.htoken.proofs.tokenizer.Tokenizer.take_parts.Given as goal
 -- This many bytes of the run have been taken.
 abbrev pub invariant-loop-count : goal.invariant-loop-count
 invariant-loop-count g l = record {
-  takes : (table : Entities) (start : RawKind) (before : Texts) (text : List Placed) (taken : List Event) → Grows before l.fn.names → HasTaken table start l.fn.self before text taken
-      → Takes (gives_item g.S.ErrorSink.gives g.S.TokenSink.gives_token) table start text (placed l.fn.run.at (chars (take l.count l.run.text.now))) taken l.names l.fn.sink (Ok tt) l.sink l.self;
+  takes : (table : Entities) (start : RawKind) (before : Texts) (text : List Placed) (taken : List Event) → Grows before l.fn.names
+      → HasTaken table start l.fn.self before text taken → Takes (gives_item g.S.ErrorSink.gives g.S.TokenSink.gives_token) table start text
+      (placed l.fn.run.at (chars (take l.count l.run.text.now))) taken l.names l.fn.sink (Ok tt) l.sink l.self;
   cut : IsCut l.count l.run.text.now;
   grows : Grows l.fn.names l.names;
 }

@@ -1,19 +1,19 @@
-use Rattle.htoken.proofs.Names.{◌<◌, ℕ, [], length, sym, ap, ◌∙◌, subst, append-nil, slice_index, prefix_len, prefix_len_stops, is_text_byte, text_front, IsCut}
+use Rattle.htoken.proofs.Names.{[], sym, ap, ◌∙◌, append-nil, prefix_len, prefix_len_stops, is_text_byte, text_front}
 use Rattle.htoken.proofs.InText.{front_text}
 use Rattle.htoken.proofs.WithReferences.{text_adds}
 use Rattle.htoken.proofs.with_references.TextWithReferences.add_text.Goals as goal
 
 pub push_front-requires : goal.push_front-requires
-push_front-requires c =
-    let is = c.text_run-count.ensures ∙ ap (prefix_len is_text_byte) c.as_bytes.ensures.value in
-    subst (λ (n : ℕ). IsCut n c.args.run.now) (sym is) (text_front c.args.run.now c.utf8.run c.requires.clean).0
+push_front-requires c = let is = c.text_run-count.ensures ∙ ap (prefix_len is_text_byte) c.as_bytes.ensures.value in
+    rw is (text_front c.args.run.now c.utf8.run c.requires.clean).0
 
 pub returns-clause-adds : goal.returns-clause-adds
 returns-clause-adds c = λ table kind at.
     let is = c.text_run-count.ensures ∙ ap (prefix_len is_text_byte) c.as_bytes.ensures.value in
-    text_adds table kind c.args.run.now at c.requires.clean c.args.self.now _ _ [] (front_text table kind c.args.run.now at c.utf8.run c.requires.clean _ is) (sym (append-nil _)) c.in_ok-push_front.ensures.text c.in_ok-push_front.ensures.utf8
+    text_adds table kind c.args.run.now at c.requires.clean c.args.self.now _ _ [] (front_text table kind c.args.run.now at c.utf8.run c.requires.clean _ is)
+    (sym (append-nil _)) c.in_ok-push_front.ensures.text c.in_ok-push_front.ensures.utf8
 
 pub returns-clause-ends : goal.returns-clause-ends
 returns-clause-ends c = λ l.
     let is = c.text_run-count.ensures ∙ ap (prefix_len is_text_byte) c.as_bytes.ensures.value in
-    ap (λ (k : ℕ). is_text_byte (slice_index c.args.run.now k)) is ∙ prefix_len_stops is_text_byte c.args.run.now 0 (subst (λ (k : ℕ). k < length c.args.run.now) is l)
+    cc (prefix_len_stops is_text_byte c.args.run.now 0 (rw (← is) l))
