@@ -41,10 +41,6 @@ agrees true _ c = is_flow c
 agrees false role.Phrasing c = is_inline c
 agrees false _ c = has_own c
 
--- what is false is not true
-never : {A : Type 0} → false ≡ true → A
-never h = absurd cc
-
 rows_agree : (t : Tag) → agrees (inserts_marker t) (row t).0 (row t).1 ≡ true
 rows_agree tag.A = refl
 rows_agree _ = refl
@@ -65,7 +61,6 @@ in_phrasing _ h = record { own = cc; fit = cc; back = cc }
 
 in_other : (C c : Content) → has_own c ≡ true → IsInner C c false
 in_other C content.Around h = absurd cc
-in_other C content.Flow h = record { own = refl; fit = refl; back = refl }
 in_other C _ h = record { own = refl; fit = refl; back = refl }
 
 inner : (C : Content) (r : Role) (c : Content) (u : Bool) → agrees false r c ≡ true → takes_role C r ≡ true → fits C u ≡ true → IsInner C c u
@@ -77,7 +72,13 @@ inner content.TableParts role.TablePart c u a h f = subst (IsInner content.Table
 inner content.Columns role.Column c u a h f = subst (IsInner content.Columns c) (sym (not-true u f)) (in_other content.Columns c a)
 inner content.TableRows role.TableRow c u a h f = subst (IsInner content.TableRows c) (sym (not-true u f)) (in_other content.TableRows c a)
 inner content.Cells role.Cell c u a h f = subst (IsInner content.Cells c) (sym (not-true u f)) (in_other content.Cells c a)
-inner _ _ c u a h f = never h
+inner _ _ c u a h f = absurd cc
+
+left_back : (m : Bool) (C : Content) (r : Role) (c : Content) (u : Bool) → agrees m r c ≡ true → takes_role C r ≡ true → fits C u ≡ true
+    → cond (is_phrasing c) false (cond (is_phrasing c) true u) ≡ u
+left_back true C r content.Flow u a h f = refl
+left_back true C r _ u a h f = absurd cc
+left_back false C r c u a h f = (inner C r c u a h f).back
 
 -- a list in this content with these texts, wherever forms are
 abbrev pub place_in : Content → Texts → Around → Inside
@@ -101,33 +102,27 @@ again : (v : Bool) (a : Around) → (v ≡ true → a.in_phrasing ≡ false)
 again true a h = λ i. record a { in_phrasing = sym (h refl) i }
 again false a h = refl
 
-marks : (t : Tag) (a : Around) → marked t true a
-    ≡ record { in_a = cond (is_a t) true a.in_a; in_button = cond (is_button t) true a.in_button; in_phrasing = cond (is_phrasing (row t).1) true a.in_phrasing }
+marks : (t : Tag) (a : Around) → marked t true a ≡ record
+    { in_a = cond (is_a t) true a.in_a; in_button = cond (is_button t) true a.in_button; in_phrasing = cond (is_phrasing (row t).1) true a.in_phrasing }
 marks tag.A a = refl
 marks _ a = refl
 
 -- what is around an element that is plain is around what comes after it too
-pub left_again : (t : Tag) (c : Content) (allowed : Texts) (a : Around) → takes_role c (row t).0 ≡ true → is_nested (place_in c allowed a) t ≡ false → fits c a.in_phrasing ≡ true
-    → marked t false (marked t true a) ≡ a
+pub left_again : (t : Tag) (c : Content) (allowed : Texts) (a : Around) → takes_role c (row t).0 ≡ true → is_nested (place_in c allowed a) t ≡ false
+    → fits c a.in_phrasing ≡ true → marked t false (marked t true a) ≡ a
 left_again tag.A c allowed a takes nested fit = λ i. record a { in_a = sym nested i }
 left_again tag.Button c allowed a takes nested fit = λ i. record a { in_button = sym nested i }
-left_again t c allowed a takes nested fit = again (is_phrasing (row t).1) a (λ e. sym (subst (λ v. cond v false (cond v true a.in_phrasing) ≡ a.in_phrasing) e (phrasing (inserts_marker t) (rows_agree t))))
-  where
-    flow : (k : Content) → is_flow k ≡ true → cond (is_phrasing k) false (cond (is_phrasing k) true a.in_phrasing) ≡ a.in_phrasing
-    flow content.Flow h = refl
-    flow _ h = never h
+left_again t c allowed a takes nested fit = again (is_phrasing (row t).1) a
+    (λ e. sym (subst (λ v. cond v false (cond v true a.in_phrasing) ≡ a.in_phrasing) e
+    (left_back (inserts_marker t) c (row t).0 (row t).1 a.in_phrasing (rows_agree t) takes fit)))
 
-    phrasing : (m : Bool) → agrees m (row t).0 (row t).1 ≡ true → cond (is_phrasing (row t).1) false (cond (is_phrasing (row t).1) true a.in_phrasing) ≡ a.in_phrasing
-    phrasing true h = flow (row t).1 h
-    phrasing false h = (inner c (row t).0 (row t).1 a.in_phrasing h takes fit).back
-
-pub enter_element : (t : Tag) (c : Content) (allowed : Texts) (a : Around) → inserts_marker t ≡ false → takes_role c (row t).0 ≡ true → fits c a.in_phrasing ≡ true
-    → IsEntered t (without_form (inside_element t (place_in c allowed a))) a
+pub enter_element : (t : Tag) (c : Content) (allowed : Texts) (a : Around) → inserts_marker t ≡ false → takes_role c (row t).0 ≡ true
+    → fits c a.in_phrasing ≡ true → IsEntered t (without_form (inside_element t (place_in c allowed a))) a
 enter_element t c allowed a no_marker takes fit =
     let p = inner c (row t).0 (row t).1 a.in_phrasing (subst (λ m. agrees m (row t).0 (row t).1 ≡ true) no_marker (rows_agree t)) takes fit in
     rw no_marker (record {
-      below = ap (place_below t) (marks t a)
-          ∙ (λ i. record { content = p.own i; texts = texts_in (p.own i); in_a = set (is_a t) a.in_a i; in_button = set (is_button t) a.in_button i; in_form = false });
+      below = ap (place_below t) (marks t a) ∙ (λ i.
+          record { content = p.own i; texts = texts_in (p.own i); in_a = set (is_a t) a.in_a i; in_button = set (is_button t) a.in_button i; in_form = false });
       fit = ap (λ m. fits (content_among m.in_phrasing (row t).1) m.in_phrasing) (marks t a)
           ∙ ap (λ k. fits k (cond (is_phrasing (row t).1) true a.in_phrasing)) p.own ∙ p.fit;
     })

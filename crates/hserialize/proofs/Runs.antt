@@ -1,5 +1,5 @@
 -- What visits do in their order is what recursion over the trees does.
-use Rattle.hserialize.proofs.Names.{◌≡◌, ℕ, Bool, true, false, cond, List, [], ◌∷◌, ◌++◌, refl, sym, ◌∙◌, ap, append_assoc, append-nil, Forest, none, tree, goes_in, visits, Reach, Visit, Enter, Leave}
+use Rattle.hserialize.proofs.Names.{◌≡◌, ℕ, cond, List, [], ◌∷◌, ◌++◌, refl, sym, ◌∙◌, ap, append_assoc, append-nil, Forest, none, tree, goes_in, visits, Reach, Visit, Enter, Leave, arith}
 
 module _ {S : Type 0} (enter leave : ℕ → S → S) where
   -- what visits do to a state
@@ -16,13 +16,7 @@ module _ {S : Type 0} (enter leave : ℕ → S → S) where
   run-before : (reach : Reach) (f : Forest ℕ) (more : List Visit) (s : S) → run (visits reach f ++ more) s ≡ run more (walked reach f s)
   run-before reach none more s = refl
   run-before reach (tree b w kids rest) more s =
-      go (goes_in reach w) (run-before reach kids (Leave b ∷ visits reach rest ++ more) (enter b s))
-      ∙ run-before reach rest more (leave b (cond (goes_in reach w) (walked reach kids (enter b s)) (enter b s)))
-    where
-      go : (u : Bool) → run (visits reach kids ++ (Leave b ∷ visits reach rest ++ more)) (enter b s) ≡ run (Leave b ∷ visits reach rest ++ more) (walked reach kids (enter b s))
-          → run ((cond u (visits reach kids) [] ++ Leave b ∷ visits reach rest) ++ more) (enter b s) ≡ run (visits reach rest ++ more) (leave b (cond u (walked reach kids (enter b s)) (enter b s)))
-      go true h = ap (λ vs. run vs (enter b s)) (append_assoc (visits reach kids) (Leave b ∷ visits reach rest) more) ∙ h
-      go false h = refl
+      grind (arith, append_assoc, run-before reach kids (Leave b ∷ visits reach rest ++ more), run-before reach rest more)
 
   pub run-visits : (reach : Reach) (f : Forest ℕ) (s : S) → run (visits reach f) s ≡ walked reach f s
   run-visits reach f s = ap (λ vs. run vs s) (sym (append-nil (visits reach f))) ∙ run-before reach f [] s

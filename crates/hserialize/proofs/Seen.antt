@@ -33,16 +33,15 @@ module _ (made : ℕ) (f : Forest ℕ) (counted : AreCounted made f) (root : ℕ
     },
     seen-among b none k a.made_is a.kids (own-inside made f counted root b within),
     seen-among q (join L (tree b w k none)) R h (is ∙ sym (join-assoc L (tree b w k none) R)) inside,
-  )
-    where
-      a : Entered made root q b w k R f
-      a = entered made f counted root q b w L k R h is
+  ) where
+    a : Entered made root q b w k R f
+    a = entered made f counted root q b w L k R h is
 
-      within : IsTrue (is_among root (ancestors_of b f))
-      within = rw a.up inside
+    within : IsTrue (is_among root (ancestors_of b f))
+    within = rw a.up inside
 
-      spot : spot_of b f ≡ Some (spot_among b q w L k R (Some q) None)
-      spot = child-spot b q w L k R f (is-there made f counted q h) (is-there made f counted b a.made_is) is
+    spot : spot_of b f ≡ Some (spot_among b q w L k R (Some q) None)
+    spot = child-spot b q w L k R f (is-there made f counted q h) (is-there made f counted b a.made_is) is
 
   pub seen : root < made → Seen made f root root (children_of root f)
   seen h = seen-among root none (children_of root f) h refl (rw (eq-eqb root root refl) refl)
@@ -56,7 +55,8 @@ module _ (made : ℕ) (f : Forest ℕ) (root : ℕ) (reach : Reach) where
   made-among p none s = All-nil is_made
   made-among p (tree b w kids rest) s =
       let inside = cond_both (goes_in reach w) (visits reach kids) [] (All is_made) (λ _. made-among b kids s.1) (λ _. All-nil is_made) in
-      All-cons is_made (Enter b) _ s.0.made_is (All-append is_made (cond (goes_in reach w) (visits reach kids) []) _ inside (All-cons is_made (Leave b) _ s.0.made_is (made-among p rest s.2)))
+      All-cons is_made (Enter b) _ s.0.made_is
+      (All-append is_made (cond (goes_in reach w) (visits reach kids) []) _ inside (All-cons is_made (Leave b) _ s.0.made_is (made-among p rest s.2)))
 
   pub made-visits : AreCounted made f → root < made → All is_made (visits reach (children_of root f))
   made-visits counted h = made-among root (children_of root f) (seen made f counted root h)

@@ -1,15 +1,8 @@
 -- A list is in order in one way, where what ties is one element: that of inserting each element in turn.
-use Rattle.hserialize.proofs.Names.{◌≡◌, ℕ, ◌+◌, ◌<◌, ◌≤◌, Bool, false, cond, List, [], ◌∷◌, length, get_or, zero, suc, subst, refl, sym, ◌∙◌, ap, arith, nat_tests, AllByRecursion, All, IsPermutation, IsStrictWeakOrder, IsTotalOrder, cond_both, IsSortedBy, recursion_from_All, All-permutation, sum_by-IsPermutation, sorted_far}
-use Rattle.std.proofs.lemmas.List.Sorted.{IsPermutation-refl, IsPermutation-trans, IsPermutation-insert, IsPermutation-append_right}
-use Rattle.std.proofs.lemmas.List.Sums.{sum_by-cons}
-use Rattle.std.specs.List.{sum_by}
-use Rattle.std.specs.Ordering.{is_lt, ordering_reverse}
-use Rattle.std.specs.declared.cmp.Ordering.{Ordering}
-use Rattle.std.specs.declared.cmp.Ordering.TheVariants.{Equal}
+use Rattle.hserialize.proofs.Names.{◌≡◌, ℕ, ◌+◌, ◌<◌, ◌≤◌, Bool, false, cond, List, [], ◌∷◌, length, get_or, zero, suc, subst, refl, sym, ◌∙◌, ap, arith, nat_tests, AllByRecursion, All, IsPermutation, IsStrictWeakOrder, IsTotalOrder, cond_both, IsSortedBy, recursion_from_All, All-permutation, sum_by-IsPermutation, sorted_far, IsPermutation-refl, IsPermutation-trans, IsPermutation-insert, sum_by-cons, sum_by, is_lt, ordering_reverse, Ordering, Equal, IsPermutation-cons}
 
 neither : (o : Ordering) → is_lt o ≡ false → is_lt (ordering_reverse o) ≡ false → o ≡ Equal
-neither Equal p q = refl
-neither _ p q = cc
+neither o p q = grind arith
 
 -- of two elements neither of which is less, each is equal to the other
 pub tied_equal : {X : Type 0} (cmp : X → X → Ordering) → IsTotalOrder cmp → (x y : X) → is_lt (cmp x y) ≡ false → is_lt (cmp y x) ≡ false → cmp x y ≡ Equal
@@ -43,14 +36,14 @@ module _ {X : Type 0} (lt : X → X → Bool) where
 
   put-permutes : (a : X) (xs : List X) → IsPermutation (a ∷ xs) (put a xs)
   put-permutes a [] = IsPermutation-refl (a ∷ [])
-  put-permutes a (b ∷ xs) = cond_both (lt b a) (b ∷ put a xs) (a ∷ b ∷ xs) (IsPermutation (a ∷ b ∷ xs))
-      (λ _. IsPermutation-trans (a ∷ b ∷ xs) (b ∷ a ∷ xs) (b ∷ put a xs) (IsPermutation-insert (b ∷ xs) 1 a) (IsPermutation-append_right (b ∷ []) (a ∷ xs) (put a xs) (put-permutes a xs)))
-      (λ _. IsPermutation-refl (a ∷ b ∷ xs))
+  put-permutes a (b ∷ xs) =
+      cond_both (lt b a) (b ∷ put a xs) (a ∷ b ∷ xs) (IsPermutation (a ∷ b ∷ xs)) (λ _. IsPermutation-trans (a ∷ b ∷ xs) (b ∷ a ∷ xs) (b ∷ put a xs)
+      (IsPermutation-insert (b ∷ xs) 1 a) (IsPermutation-cons b (a ∷ xs) (put a xs) (put-permutes a xs))) (λ _. IsPermutation-refl (a ∷ b ∷ xs))
 
   pub inserted-permutes : (xs : List X) → IsPermutation xs (inserted xs)
   inserted-permutes [] = IsPermutation-refl []
-  inserted-permutes (a ∷ xs) =
-      IsPermutation-trans (a ∷ xs) (a ∷ inserted xs) (put a (inserted xs)) (IsPermutation-append_right (a ∷ []) xs (inserted xs) (inserted-permutes xs)) (put-permutes a (inserted xs))
+  inserted-permutes (a ∷ xs) = IsPermutation-trans (a ∷ xs) (a ∷ inserted xs) (put a (inserted xs))
+      (IsPermutation-cons a xs (inserted xs) (inserted-permutes xs)) (put-permutes a (inserted xs))
 
   -- how many of a list are less than this one
   abbrev count : X → X → ℕ
@@ -73,7 +66,8 @@ module _ {X : Type 0} (lt : X → X → Bool) where
 
     put-up : (a : X) (xs : List X) → Up xs → Up (put a xs)
     put-up a [] h = (tt, tt)
-    put-up a (b ∷ xs) h = cond_both (lt b a) (b ∷ put a xs) (a ∷ b ∷ xs) Up (λ e. (put_all _ a xs (o.one_way b a e) h.0, put-up a xs h.1)) (λ e. ((e, above-chain a b xs e h.0), h))
+    put-up a (b ∷ xs) h = cond_both (lt b a) (b ∷ put a xs) (a ∷ b ∷ xs) Up (λ e. (put_all _ a xs (o.one_way b a e) h.0, put-up a xs h.1)) (λ e.
+        ((e, above-chain a b xs e h.0), h))
 
     inserted-up : (xs : List X) → Up (inserted xs)
     inserted-up [] = tt
@@ -88,11 +82,13 @@ module _ {X : Type 0} (lt : X → X → Bool) where
     pub inserted-sorted : (xs : List X) → IsSortedBy lt (inserted xs)
     inserted-sorted xs = λ k d low within.
         let next : suc k ≡ k + 1 = omega arith in
-        subst (λ (n : ℕ). lt (get_or (inserted xs) n d) (get_or (inserted xs) k d) ≡ false) next (rises (inserted xs) (inserted-up xs) k d (omega (arith, within)))
+        subst (λ (n : ℕ). lt (get_or (inserted xs) n d) (get_or (inserted xs) k d) ≡ false) next
+        (rises (inserted xs) (inserted-up xs) k d (omega (arith, within)))
 
     up_of : (xs : List X) → ((i j : ℕ) (d : X) → i ≤ j → j < length xs → lt (get_or xs j d) (get_or xs i d) ≡ false) → Up xs
     up_of [] h = tt
-    up_of (x ∷ xs) h = (recursion_from_All _ _ (λ k d p. h 0 (suc k) d (omega arith) (omega arith)), up_of xs (λ i j d p q. h (suc i) (suc j) d (omega arith) (omega arith)))
+    up_of (x ∷ xs) h =
+        (recursion_from_All _ _ (λ k d p. h 0 (suc k) d (omega arith) (omega arith)), up_of xs (λ i j d p q. h (suc i) (suc j) d (omega arith) (omega arith)))
 
     module _ (P : X → Type 0) (one : (x y : X) → P x → P y → lt x y ≡ false → lt y x ≡ false → x ≡ y) where
       -- whatever is counted of two lists in order, it is as much
@@ -107,8 +103,8 @@ module _ {X : Type 0} (lt : X → X → Bool) where
           λ i. first i ∷ once xs ys h.1 k.1 p.1 q.1 (λ f. omega (arith, same f, sum_by-cons f x xs, sum_by-cons f y ys, ap f first)) i
 
       pub sorted-is : (xs ys : List X) → IsPermutation xs ys → IsSortedBy lt ys → All P xs → ys ≡ inserted xs
-      sorted-is xs ys moved up all =
-          once ys (inserted xs) (up_of ys (sorted_far lt o ys up)) (inserted-up xs) (recursion_from_All P ys (All-permutation P xs ys moved all)) (inserted_all P xs (recursion_from_All P xs all))
+      sorted-is xs ys moved up all = once ys (inserted xs) (up_of ys (sorted_far lt o ys up)) (inserted-up xs)
+          (recursion_from_All P ys (All-permutation P xs ys moved all)) (inserted_all P xs (recursion_from_All P xs all))
           (λ f. sum_by-IsPermutation f xs ys moved ∙ sym (sum_by-IsPermutation f xs (inserted xs) (inserted-permutes xs)))
 
       pub sorted-once : (xs ys : List X) → IsPermutation xs ys → IsSortedBy lt xs → IsSortedBy lt ys → All P xs → xs ≡ ys

@@ -1,5 +1,5 @@
 -- A walk with a state, which is lost at a visit that finds what is not to be.
-use Rattle.hserialize.proofs.Names.{◌≡◌, ℕ, Bool, true, false, cond, cond_both, List, [], ◌∷◌, Some, None, refl, sym, ◌∙◌, ap, option_and_then, Option, Forest, none, tree, goes_in, Visit, Enter, Leave, Reach, not, ◌&&◌, visits}
+use Rattle.hserialize.proofs.Names.{◌≡◌, ℕ, Bool, true, false, cond, List, [], ◌∷◌, Some, None, refl, sym, ◌∙◌, ap, option_and_then, Option, Forest, none, tree, Visit, Enter, Leave, Reach, not, ◌&&◌, visits, arith}
 use Rattle.hserialize.proofs.Runs.{run, run-visits, walked}
 
 -- whether the state was not lost
@@ -8,8 +8,7 @@ is_left None = false
 is_left (Some a) = true
 
 tells : {S : Type 0} (u : Bool) (a : S) → is_left (cond u (Some a) None) ≡ u
-tells true a = refl
-tells false a = refl
+tells u a = grind arith
 
 module _ {S : Type 0} (step : Visit → S → Option S) where
   abbrev pub entering : ℕ → Option S → Option S
@@ -20,44 +19,34 @@ module _ {S : Type 0} (step : Visit → S → Option S) where
 
   lost : (reach : Reach) (g : Forest ℕ) → walked entering leaving reach g None ≡ None
   lost reach none = refl
-  lost reach (tree b w kids rest) =
-      ap (λ s. walked entering leaving reach rest (leaving b s)) (cond_both (goes_in reach w) (walked entering leaving reach kids None) None (λ o. o ≡ None) (λ _. lost reach kids) (λ _. refl))
-      ∙ lost reach rest
+  lost reach (tree b w kids rest) = grind (arith, lost reach kids, lost reach rest)
 
   -- a node that the walk stays out of, or goes into: itself, what is in it, and the nodes after it
-  pub node-finds : (reach : Reach) (hides : Bool) (b : ℕ) (kids rest : Forest ℕ) (s within : S) (own inner others : Bool) → entering b (Some s) ≡ cond own (Some within) None
-      → (hides ≡ false → own ≡ true → walked entering leaving reach kids (Some within) ≡ cond inner (Some within) None) → (own ≡ true → leaving b (Some within) ≡ Some s)
-      → walked entering leaving reach rest (Some s) ≡ cond others (Some s) None
-      → walked entering leaving reach rest (leaving b (cond (not hides) (walked entering leaving reach kids (entering b (Some s))) (entering b (Some s)))) ≡ cond (own && cond hides true inner && others) (Some s) None
-  node-finds reach hides b kids rest s within own inner others first below back law = ap (λ o. after (leaving b (cond (not hides) (walked entering leaving reach kids o) o))) first ∙ go hides own inner below back
-    where
-      after : Option S → Option S
-      after = walked entering leaving reach rest
-
-      go : (hides own inner : Bool) → (hides ≡ false → own ≡ true → walked entering leaving reach kids (Some within) ≡ cond inner (Some within) None) → (own ≡ true → leaving b (Some within) ≡ Some s)
-          → after (leaving b (cond (not hides) (walked entering leaving reach kids (cond own (Some within) None)) (cond own (Some within) None))) ≡ cond (own && cond hides true inner && others) (Some s) None
-      go true false inner below back = lost reach rest
-      go false false inner below back = ap (λ o. after (leaving b o)) (lost reach kids) ∙ lost reach rest
-      go true true inner below back = ap after (back refl) ∙ law
-      go false true true below back = ap (λ o. after (leaving b o)) (below refl refl) ∙ ap after (back refl) ∙ law
-      go false true false below back = ap (λ o. after (leaving b o)) (below refl refl) ∙ lost reach rest
+  pub node-finds : (reach : Reach) (hides : Bool) (b : ℕ) (kids rest : Forest ℕ) (s within : S) (own inner others : Bool)
+      → entering b (Some s) ≡ cond own (Some within) None
+      → (hides ≡ false → own ≡ true → walked entering leaving reach kids (Some within) ≡ cond inner (Some within) None)
+      → (own ≡ true → leaving b (Some within) ≡ Some s) → walked entering leaving reach rest (Some s) ≡ cond others (Some s) None
+      → walked entering leaving reach rest (leaving b (cond (not hides) (walked entering leaving reach kids (entering b (Some s))) (entering b (Some s))))
+      ≡ cond (own && cond hides true inner && others) (Some s) None
+  node-finds reach hides b kids rest s within own inner others first below back law = grind (arith, lost reach kids, lost reach rest)
 
   one : (v : Visit) (left : List Visit) (s : S) → run entering leaving (v ∷ left) (Some s) ≡ run entering leaving left (step v s)
-  one (Enter n) left s = refl
-  one (Leave n) left s = refl
+  one v left s = grind arith
 
   none_left : (left : List Visit) → run entering leaving left None ≡ None
   none_left [] = refl
-  none_left (Enter n ∷ left) = none_left left
-  none_left (Leave n ∷ left) = none_left left
+  none_left (v ∷ left) = grind (arith, none_left left)
 
   -- the visits that are left find whether all is as it is to be
   pub record Finds (all : Bool) (s : S) (left : List Visit) : Type 0 where
     pub same : is_left (run entering leaving left (Some s)) ≡ all
 
-  pub finds-all : (reach : Reach) (g : Forest ℕ) (all : Bool) (s : S) (left items : List Visit) → left ≡ items → items ≡ visits reach g → walked entering leaving reach g (Some s) ≡ cond all (Some s) None → Finds all s left
-  finds-all reach g all s left items same visited law =
-      record { same = ap (λ vs. is_left (run entering leaving vs (Some s))) (same ∙ visited) ∙ ap is_left (run-visits entering leaving reach g (Some s) ∙ law) ∙ tells all s }
+  pub finds-all : (reach : Reach) (g : Forest ℕ) (all : Bool) (s : S) (left items : List Visit) → left ≡ items → items ≡ visits reach g
+      → walked entering leaving reach g (Some s) ≡ cond all (Some s) None → Finds all s left
+  finds-all reach g all s left items same visited law = record {
+    same =
+        ap (λ vs. is_left (run entering leaving vs (Some s))) (same ∙ visited) ∙ ap is_left (run-visits entering leaving reach g (Some s) ∙ law) ∙ tells all s;
+  }
 
   module _ (all : Bool) (s : S) (v : Visit) (old left : List Visit) (is : old ≡ v ∷ left) (f : Finds all s old) where
     after : is_left (run entering leaving left (step v s)) ≡ all

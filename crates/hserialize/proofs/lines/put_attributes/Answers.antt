@@ -4,9 +4,9 @@ use Rattle.hserialize.proofs.lines.put_attributes.Goals as goal
 
 pub returns-in_err-put_line : goal.returns-in_err-put_line
 returns-in_err-put_line g c =
-    passed_on _ _ _ _ c.from_residual.ensures.1
-    (part_failed _ _ _ _ _ _ _ c.loop-entry.invariant (next_attribute c.args.depth c.args.entries.now c.loop-entry.entry-index _ _ _ c.loop-entry-test.true c.as_bytes-name.ensures.value c.as_bytes-value.ensures.value) c.in_err-put_line.ensures)
+    passed_on _ _ _ _ c.from_residual.ensures.1 (part_failed _ _ _ _ _ _ _ c.loop-entry.invariant (next_attribute c.args.depth c.args.entries.now
+    c.loop-entry.entry-index _ _ _ c.loop-entry-test.true c.as_bytes-name.ensures.value c.as_bytes-value.ensures.value) c.in_err-put_line.ensures)
 
 pub loop-entry-preserved : goal.loop-entry-preserved
-loop-entry-preserved g c =
-    part_put _ _ _ _ _ _ _ c.loop-entry.invariant (next_attribute c.args.depth c.args.entries.now c.loop-entry.entry-index _ _ _ c.loop-entry-test.true c.as_bytes-name.ensures.value c.as_bytes-value.ensures.value) c.in_ok-put_line.ensures
+loop-entry-preserved g c = part_put _ _ _ _ _ _ _ c.loop-entry.invariant (next_attribute c.args.depth c.args.entries.now c.loop-entry.entry-index _ _ _
+    c.loop-entry-test.true c.as_bytes-name.ensures.value c.as_bytes-value.ensures.value) c.in_ok-put_line.ensures

@@ -1,6 +1,5 @@
-use Rattle.hserialize.proofs.Names.{sym, ◌∙◌, rules}
+use Rattle.hserialize.proofs.Names.{sym, ◌∙◌, rules, the_type}
 use denote.Enum.Bare.{differs_false}
-use Rattle.names.specs.contracts.error.ErrorCode.{the_type}
 use Rattle.hserialize.proofs.error_line.ErrorLine.turn_to.Goals as goal
 
 pub returns-else-ne-clause-code : goal.returns-else-ne-clause-code

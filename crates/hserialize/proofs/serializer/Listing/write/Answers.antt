@@ -3,9 +3,9 @@ use Rattle.hserialize.proofs.Finished.{cut_short, finished}
 use Rattle.hserialize.proofs.serializer.Listing.write.Goals as goal
 
 pub returns-in_err-put_list-clause-text : goal.returns-in_err-put_list-clause-text
-returns-in_err-put_list-clause-text g c =
-    cut_short g.W.Target.written g.W.Target.failed _ _ _ c.new-out.result _ c.new-out.ensures c.put_list.new.out _ c.from_residual-in_err-put_list.ensures.1 c.in_err-put_list.ensures (search rules)
+returns-in_err-put_list-clause-text g c = cut_short g.W.Target.written g.W.Target.failed _ _ _ c.new-out.result _ c.new-out.ensures c.put_list.new.out _
+    c.from_residual-in_err-put_list.ensures.1 c.in_err-put_list.ensures (search rules)
 
 pub returns-clause-text : goal.returns-clause-text
-returns-clause-text g c =
-    finished g.W.Target.written g.W.Target.failed _ _ _ c.new-out.result _ c.new-out.ensures c.put_list.new.out c.finish.new.self c.finish.result c.in_ok-put_list.ensures c.finish.ensures.ends (search rules)
+returns-clause-text g c = finished g.W.Target.written g.W.Target.failed _ _ _ c.new-out.result _ c.new-out.ensures c.put_list.new.out c.finish.new.self
+    c.finish.result c.in_ok-put_list.ensures c.finish.ensures.ends (search rules)
