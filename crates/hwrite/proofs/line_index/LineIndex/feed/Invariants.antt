@@ -1,5 +1,4 @@
-use Rattle.std.proofs.Common.{◌≡◌, ◌+◌, ◌++◌, List, ℕ, take, vec_len}
-use Rattle.hwrite.specs.Indexed.{IndexHasRead}
+use Rattle.hwrite.proofs.Vocabulary.{◌≡◌, ◌+◌, ◌++◌, List, ℕ, take, vec_len, IndexHasRead}
 use Rattle.hwrite.proofs.line_index.LineIndex.feed.Given as goal
 
 -- the bytes so far have been read, and no memory was needed

@@ -1,4 +1,4 @@
-use Rattle.std.proofs.Common.{refl}
+use Rattle.hwrite.proofs.Vocabulary.{refl}
 use Rattle.hwrite.proofs.Indexing.{grown}
 use Rattle.hwrite.proofs.line_index.LineIndex.make_room.Goals as goal
 

@@ -1,6 +1,4 @@
-use Rattle.std.proofs.Common.{◌≡◌, List, ℕ}
-use Rattle.hwrite.specs.Columns.{column_at, line_at}
-use Rattle.hwrite.specs.Indexed.{IndexHasRead}
+use Rattle.hwrite.proofs.Vocabulary.{◌≡◌, List, ℕ, column_at, line_at, IndexHasRead}
 use Rattle.hwrite.proofs.line_index.LineIndex.place_after.Given as goal
 
 -- the place after the bytes so far
