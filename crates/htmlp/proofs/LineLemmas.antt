@@ -1,22 +1,7 @@
 -- What `clap` says of the program's command line.
-use Rattle.htmlp.proofs.Names.{◌≡◌, ◌⊎◌, inl, inr, refl, sym, ap, subst, ◌∙◌, List, [], ◌∷◌, false, Bor, Result, Ok, Err, MatchResult, Option, None, Some, option_map, codes, HasKind, Row, Text, app_of, fault_of, found_of, is_simple_and_free, rows_of, takes, Command, ArgMatches, fault_of_error, Numeric, SaysLine, bad_bytes_of, task_of, option_value, Fault, Line}
-use Rattle.std.proofs.Common.{if◌then◌else◌, Bool, true, is_some, IfOk, IfErr, OnOk, option_and_then}
-use Rattle.std.specs.Prelude.{IsSome, find}
-use Rattle.std.specs.List.{list_all}
-use Rattle.clap.specs.Words.{HasMatchesOf, IsAmong, Shape, built, first_of, first_value, is_simple, kind_of, subcommand_name_of, subcommand_of, subcommand_rows_of}
-use Rattle.clap.specs.Simple.{argument_words, entered, label_of, names_of, rows_at}
-use Rattle.clap.specs.Walk.{answers_to, stop_after}
-use Rattle.clap.specs.declared.parser.matches.ArgMatches.TheViews.{out-ArgMatches}
-use Rattle.clap.proofs.WalkLemmas.{both, first_value-rows}
-use Rattle.clap.specs.declared.error.Error.{Error}
-use Rattle.clap.specs.declared.error.kind.ErrorKind.{ErrorKind}
-use Rattle.clap.specs.declared.error.kind.ErrorKind.TheVariants.{OutOfMemory}
+use Rattle.htmlp.proofs.Names.{◌≡◌, ◌⊎◌, inl, inr, refl, sym, ap, subst, ◌∙◌, List, [], ◌∷◌, Bor, Result, Ok, Err, MatchResult, Option, None, Some, option_map, codes, HasKind, Row, Text, app_of, fault_of, found_of, is_simple_and_free, rows_of, takes, Command, ArgMatches, fault_of_error, Numeric, SaysLine, bad_bytes_of, task_of, option_value, Fault, Line, Bool, true, is_some, IfOk, IfErr, OnOk, option_and_then, IsSome, find, list_all, HasMatchesOf, IsAmong, Shape, built, first_of, first_value, is_simple, kind_of, subcommand_name_of, subcommand_of, subcommand_rows_of, argument_words, entered, label_of, names_of, rows_at, answers_to, stop_after, out-ArgMatches, first_value-rows, Error, ErrorKind, OutOfMemory, task_named, fault_by_kind, AreGood, AreNumbers, FaultOf, NumberFault, OptionFault, numeric_options, program, Task, arith}
 use Rattle.clap.proofs.OnLiterals.{clap_on_literals}
-use Rattle.hwrite.specs.Command.{task_named}
 use Rattle.htmlp.specs.declared.fault.Fault.TheVariants as fault
-use Rattle.htmlp.specs.Fault.{fault_by_kind}
-use Rattle.htmlp.specs.Line.{AreGood, AreNumbers, FaultOf, NumberFault, OptionFault, numeric_options, program}
-use Rattle.hwrite.specs.declared.command.Task.{Task}
 
 pub program-simple : is_simple program ≡ true
 unfolding clap_on_literals
@@ -45,10 +30,7 @@ fault_of_error-memory error e = ap (λ k. fault_by_kind k error) e
 -- what is found is as all are
 found_among : {X : Type 0} (test good : X → Bool) (xs : List X) (x : X) → find test xs ≡ Some x → list_all good xs ≡ true → good x ≡ true
 found_among test good [] x is all = absurd cc
-found_among test good (y ∷ ys) x is all = at (test y) is (found_among test good ys x) where
-  at : (b : Bool) → (if b then Some y else find test ys) ≡ Some x → (find test ys ≡ Some x → list_all good ys ≡ true → good x ≡ true) → good x ≡ true
-  at true e later = let same : y ≡ x = cc in subst (λ z. good z ≡ true) same (both (good y) _ all).0
-  at false e later = later e (both (good y) _ all).1
+found_among test good (y ∷ ys) x is all = grind (arith, found_among test good ys x)
 
 abbrev is_command : Shape → Bool
 is_command s = is_some (task_named s.name)
@@ -60,7 +42,8 @@ all_are_commands = refl
 entered_named : (shapes : List Shape) (at : Text × List Text) (p : Text × List Row) → list_all is_command shapes ≡ true
     → option_map (λ s. rows_at s at.1) (find (λ s. answers_to at.0 (label_of s)) shapes) ≡ Some p → is_some (task_named p.0) ≡ true
 entered_named shapes at p all is = by (find (λ s. answers_to at.0 (label_of s)) shapes) refl is where
-  by : (found : Option Shape) → find (λ s. answers_to at.0 (label_of s)) shapes ≡ found → option_map (λ s. rows_at s at.1) found ≡ Some p → is_some (task_named p.0) ≡ true
+  by : (found : Option Shape) → find (λ s. answers_to at.0 (label_of s)) shapes ≡ found → option_map (λ s. rows_at s at.1) found ≡ Some p
+      → is_some (task_named p.0) ≡ true
   by None at_none e = absurd cc
   by (Some s) at_some e = let same : s.name ≡ p.0 = cc in subst (λ n. is_some (task_named n) ≡ true) same (found_among _ is_command shapes s at_some all)
 
@@ -75,20 +58,23 @@ abbrev entry_rows : Bor Text × Bor ArgMatches → List Row
 entry_rows p = rows_of (found_of p.1.now)
 
 -- the name of the subcommand that was found, and its matches
-module _ (command : Command) (m : ArgMatches) {its : Bor Text × Bor ArgMatches} {found : Option (Bor Text × Bor ArgMatches)} (words : List Text) (is : app_of command ≡ program) (matches : HasMatchesOf (app_of command) words m)
-    (some : found ≡ Some its) (rows : option_map entry_rows found ≡ option_map (λ p. p.1) (subcommand_rows_of m)) (names : option_map entry_name found ≡ subcommand_name_of m) where
+module _ (command : Command) (m : ArgMatches) {its : Bor Text × Bor ArgMatches} {found : Option (Bor Text × Bor ArgMatches)} (words : List Text)
+    (is : app_of command ≡ program) (matches : HasMatchesOf (app_of command) words m) (some : found ≡ Some its)
+    (rows : option_map entry_rows found ≡ option_map (λ p. p.1) (subcommand_rows_of m)) (names : option_map entry_name found ≡ subcommand_name_of m) where
   entered_is : subcommand_rows_of m ≡ subcommand_of program words
   entered_is = (matches (ap is_simple is ∙ program-simple)).1 ∙ ap (λ a. subcommand_of a words) is
 
   name_and_rows : Some (entry_name its, entry_rows its) ≡ subcommand_of program words
-  name_and_rows = by (out-ArgMatches m).subcommand _ (ap (option_map entry_rows) (sym some) ∙ rows) (ap (option_map entry_name) (sym some) ∙ names) ∙ entered_is where
-    by : {Z : Type 0} (o : Option Z) (f : Z → Text × List Row) → Some (entry_rows its) ≡ option_map (λ p. p.1) (option_map f o) → Some (entry_name its) ≡ option_map (λ z. (f z).0) o
-        → Some (entry_name its, entry_rows its) ≡ option_map f o
-    by None f r n = absurd cc
-    by (Some z) f r n = let first : entry_name its ≡ (f z).0 = cc in let second : entry_rows its ≡ (f z).1 = cc in rw (first, second) refl
+  name_and_rows =
+      by (out-ArgMatches m).subcommand _ (ap (option_map entry_rows) (sym some) ∙ rows) (ap (option_map entry_name) (sym some) ∙ names) ∙ entered_is where
+        by : {Z : Type 0} (o : Option Z) (f : Z → Text × List Row) → Some (entry_rows its) ≡ option_map (λ p. p.1) (option_map f o)
+            → Some (entry_name its) ≡ option_map (λ z. (f z).0) o → Some (entry_name its, entry_rows its) ≡ option_map f o
+        by None f r n = absurd cc
+        by (Some z) f r n = let first : entry_name its ≡ (f z).0 = cc in let second : entry_rows its ≡ (f z).1 = cc in rw (first, second) refl
 
   pub names_a_task : IsSome (task_named (entry_name its))
-  names_a_task = stop_named (stop_after (built program).top.rules (names_of (built program)) (argument_words program words)) (entry_name its, entry_rows its) (sym name_and_rows)
+  names_a_task = stop_named (stop_after (built program).top.rules (names_of (built program)) (argument_words program words)) (entry_name its, entry_rows its)
+      (sym name_and_rows)
 
   -- the task that it names, and the values that its matches have, are those of the words
   pub task_and_values : (task_named (entry_name its) ≡ task_of words) × (first_value (found_of its.1.now) ≡ option_value words)
@@ -108,7 +94,8 @@ pub anyway : {P : Type 0} (r : Result Line Fault) → P → OnOk r P
 anyway (Ok line) p = p
 anyway (Err why) p = tt
 
-number_fault : (words : List Text) (options : List Numeric) (why : Fault) → fault_of program words ≡ [] → NumberFault (option_value words) numeric_options why → FaultOf words why
+number_fault : (words : List Text) (options : List Numeric) (why : Fault) → fault_of program words ≡ [] → NumberFault (option_value words) numeric_options why
+    → FaultOf words why
 number_fault words options fault.Memory none h = tt
 number_fault words options (fault.Number option text) none h = (none, inl h)
 number_fault words options why none (inl h) = absurd h.1
@@ -121,8 +108,8 @@ option_fault : (words : List Text) (why : Fault) → fault_of program words ≡ 
 option_fault words why none (inl h) = number_fault words numeric_options why none h
 option_fault words why none (inr h) = subst (FaultOf words) (sym h.2) (none, inr (h.0, h.1, refl))
 
-pub says_fault : (r : Result Line Fault) (words : List Text) (task : Option Task) {value : Text → Option Text} → fault_of program words ≡ [] → value ≡ option_value words
-    → MatchResult r (SaysLine task value) (OptionFault value) → IfErr r (FaultOf words)
+pub says_fault : (r : Result Line Fault) (words : List Text) (task : Option Task) {value : Text → Option Text} → fault_of program words ≡ []
+    → value ≡ option_value words → MatchResult r (SaysLine task value) (OptionFault value) → IfErr r (FaultOf words)
 says_fault (Ok line) words task none is h = tt
 says_fault (Err why) words task none is h = option_fault words why none (subst (λ v. OptionFault v why) is h)
 
@@ -134,14 +121,12 @@ no_number_fault value (option ∷ options) why (is, are) (inr (_, h)) = no_numbe
 
 no_option_fault : (value : Text → Option Text) (why : Fault) → AreGood value → OptionFault value why → ⊥
 no_option_fault value why good (inl h) = no_number_fault value numeric_options why good.0 h
-no_option_fault value why good (inr h) = not_some (bad_bytes_of (value (codes "bad-bytes"))) good.1 h.1
-  where
-    not_some : {A : Type 0} (o : Option A) → IsSome o → o ≡ None → ⊥
-    not_some None some is = absurd cc
-    not_some (Some x) some is = absurd cc
+no_option_fault value why good (inr h) = not_some (bad_bytes_of (value (codes "bad-bytes"))) good.1 h.1 where
+  not_some : {A : Type 0} (o : Option A) → IsSome o → o ≡ None → ⊥
+  not_some None some is = absurd cc
+  not_some (Some x) some is = absurd cc
 
 pub no_fault : (r : Result Line Fault) (words : List Text) (task : Option Task) {value : Text → Option Text} → value ≡ option_value words
-    → MatchResult r (SaysLine task value) (OptionFault value)
-    → IfErr r (λ f. takes program words ≡ true → AreGood (option_value words) → f ≡ fault.Memory)
+    → MatchResult r (SaysLine task value) (OptionFault value) → IfErr r (λ f. takes program words ≡ true → AreGood (option_value words) → f ≡ fault.Memory)
 no_fault (Ok line) words task is h = tt
 no_fault (Err why) words task is h = λ taken good. absurd (no_option_fault (option_value words) why good (subst (λ v. OptionFault v why) is h))

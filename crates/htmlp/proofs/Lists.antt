@@ -1,10 +1,5 @@
 -- The lists that the words name, and the empty quirks list.
-use Rattle.htmlp.proofs.Names.{◌≡◌, Option, Some, Result, Ok, Err, [], ◌∷◌, ◌++◌, List, ℕ, inr, option_map, refl, subst, sym, Bor, Refusal, ReadsQuirks, Fault}
-use Rattle.names.specs.declared.refusal.Refusal.TheVariants.{Memory}
-use Rattle.hmarkup.specs.Quirks.{no_memory, bad_line, read_all}
-use Rattle.htmlp.specs.declared.fault.Fault.TheVariants.{Refused}
-use Rattle.htmlp.specs.Program.{FindsFile}
-use Rattle.htmlp.specs.World.{World}
+use Rattle.htmlp.proofs.Names.{◌≡◌, Option, Some, Result, Ok, Err, [], ◌∷◌, ◌++◌, List, ℕ, inr, option_map, refl, subst, sym, Bor, Refusal, ReadsQuirks, Fault, Memory, no_memory, bad_line, read_all, Refused, FindsFile, World}
 
 some_line : (before after : List (List ℕ)) (line : List ℕ) → [] ≡ before ++ line ∷ after → ⊥
 some_line [] after line is = absurd cc
@@ -17,8 +12,8 @@ no_line_is_bad e (bad_line before after line quirks lines listed bad is) = absur
 no_line_is_bad e (read_all quirks listed is) = absurd cc
 
 -- what is read of the file of a name
-module _ {R F A : Type 0} (world : World R F) (default : A) (reads : List ℕ → Result A Refusal → Type 0) (surroundings : R)
-    {name : Option (Bor (List ℕ))} {file : Bor (List ℕ)} (is : name ≡ Some file) {read text : List ℕ} (same : read ≡ text) (has : world.has_text surroundings file.now text) where
+module _ {R F A : Type 0} (world : World R F) (default : A) (reads : List ℕ → Result A Refusal → Type 0) (surroundings : R) {name : Option (Bor (List ℕ))}
+    {file : Bor (List ℕ)} (is : name ≡ Some file) {read text : List ℕ} (same : read ≡ text) (has : world.has_text surroundings file.now text) where
   abbrev FindsIn : Option (Bor (List ℕ)) → Result A Fault → Type 0
   FindsIn its = FindsFile world default reads surroundings (option_map (λ s. s.now) its)
 

@@ -1,19 +1,5 @@
 -- What the words say, where they are read.
-use Rattle.htmlp.proofs.Names.{◌≡◌, ◌⊎◌, ◌∙◌, inl, inr, ap, ap₂, sym, subst, codes, Option, option_map, ℕ, List, Ok, Err, false, Bor, Text, Fault, IsRefusalOf, Numeric, range_of, Line, SaysLine, task_of, option_value, FindsQuirks}
-use Rattle.std.proofs.Common.{rules}
-use Rattle.std.proofs.Math.Nat.{le_refl}
-use Rattle.charref.specs.Reference.{Entities}
-use Rattle.hmarkup.specs.Quirks.{QuirkLine}
-use Rattle.names.specs.declared.refusal.Refusal.TheVariants.{BadContext}
-use Rattle.htext.specs.declared.decoder.TheConstants.{MAX_INPUT}
-use Rattle.hmodes.specs.Bounds.{AreLimits, Bounds}
-use Rattle.hwrite.specs.Context.{AllowsContext}
-use Rattle.htmlp.specs.Fault.{IsLimitFault}
-use Rattle.htmlp.specs.declared.fault.Fault.TheVariants.{Limit}
-use Rattle.htmlp.specs.declared.numeric.Numeric.TheVariants.{Nodes, Open}
-use Rattle.htmlp.specs.Numeric.{IsInRange}
-use Rattle.htmlp.specs.World.{World}
-use Rattle.htmlp.specs.Program.{FindsTable, FirstFault, no_table, no_quirks, no_limits, no_context, TellsOptions, CommandOptions, limits_of}
+use Rattle.htmlp.proofs.Names.{◌≡◌, ◌⊎◌, ◌∙◌, inl, inr, ap, ap₂, sym, subst, codes, Option, option_map, ℕ, List, Ok, Err, false, Bor, Text, Fault, IsRefusalOf, Numeric, range_of, Line, SaysLine, task_of, option_value, FindsQuirks, rules, le_refl, Entities, QuirkLine, BadContext, MAX_INPUT, AreLimits, Bounds, AllowsContext, IsLimitFault, Limit, Nodes, Open, IsInRange, World, FindsTable, FirstFault, no_table, no_quirks, no_limits, no_context, TellsOptions, CommandOptions, limits_of}
 
 abbrev name_of : Option (Bor (List ℕ)) → Option Text
 name_of = option_map (λ s. s.now)
@@ -32,11 +18,13 @@ limits_from nodes depth = record { input = MAX_INPUT; tree = record { nodes = no
 
 -- limits that are refused, by the first that is out of its range
 pub limit_fault : {nodes depth : ℕ} {bad : Numeric} → (AreLimits (limits_from nodes depth) → ⊥)
-    → ((IsInRange (range_of Nodes) nodes → ⊥) × (bad ≡ Nodes)) ⊎ (IsInRange (range_of Nodes) nodes × (bad ≡ Open)) → IsLimitFault (limits_from nodes depth).tree (Limit bad)
+    → ((IsInRange (range_of Nodes) nodes → ⊥) × (bad ≡ Nodes)) ⊎ (IsInRange (range_of Nodes) nodes × (bad ≡ Open))
+    → IsLimitFault (limits_from nodes depth).tree (Limit bad)
 limit_fault none (inl (out, is)) = inl (out, ap Limit is)
 limit_fault none (inr (within, is)) = inr (
   within,
-  (λ depth_within. none (record { most_input = le_refl _; some_nodes = within.0; most_nodes = within.1; some_depth = depth_within.0; most_depth = depth_within.1 })),
+  (λ depth_within.
+      none (record { most_input = le_refl _; some_nodes = within.0; most_nodes = within.1; some_depth = depth_within.0; most_depth = depth_within.1 })),
   ap Limit is,
 )
 
@@ -68,21 +56,26 @@ module _ {R F : Type 0} (world : World R F) (surroundings : R) (words : List Tex
 
   pub quirks_missing : (table : Entities) {why : Fault} → IsTable table → FindsQuirks world surroundings (name_of line.quirks) (Err why)
       → FirstFault world surroundings words why
-  quirks_missing table {why} found is = no_quirks table (table_found table found) (subst (λ name. FindsQuirks world surroundings name (Err why)) says.quirks_is is)
+  quirks_missing table {why} found is =
+      no_quirks table (table_found table found) (subst (λ name. FindsQuirks world surroundings name (Err why)) says.quirks_is is)
 
-  pub limits_refused : (table : Entities) (quirks : List QuirkLine) {why : Fault} → IsTable table → IsQuirks quirks → (AreLimits (limits_from line.nodes line.open) → ⊥)
-      → IsLimitFault (limits_from line.nodes line.open).tree why → FirstFault world surroundings words why
-  limits_refused table quirks {why} found listed none is =
-      no_limits table quirks (table_found table found) (quirks_found quirks listed) (λ are. none (limits_said are)) (subst (λ (b : Bounds). IsLimitFault b.tree why) limits_are is)
+  pub limits_refused : (table : Entities) (quirks : List QuirkLine) {why : Fault} → IsTable table → IsQuirks quirks
+      → (AreLimits (limits_from line.nodes line.open) → ⊥) → IsLimitFault (limits_from line.nodes line.open).tree why → FirstFault world surroundings words why
+  limits_refused table quirks {why} found listed none is = no_limits table quirks (table_found table found) (quirks_found quirks listed)
+      (λ are. none (limits_said are)) (subst (λ (b : Bounds). IsLimitFault b.tree why) limits_are is)
 
-  pub context_refused : (table : Entities) (quirks : List QuirkLine) {why : Fault} → IsTable table → IsQuirks quirks → AreLimits (limits_from line.nodes line.open)
-      → (AllowsContext (name_of line.command.context) → ⊥) → IsRefusalOf (name_of line.command.context) BadContext why → FirstFault world surroundings words why
+  pub context_refused : (table : Entities) (quirks : List QuirkLine) {why : Fault} → IsTable table → IsQuirks quirks
+      → AreLimits (limits_from line.nodes line.open) → (AllowsContext (name_of line.command.context) → ⊥)
+      → IsRefusalOf (name_of line.command.context) BadContext why → FirstFault world surroundings words why
   context_refused table quirks {why} found listed are none is =
-      no_context table quirks (table_found table found) (quirks_found quirks listed) (limits_found are) (λ allows. none (subst AllowsContext (sym says.context_is) allows))
-      (subst (λ name. IsRefusalOf name BadContext why) says.context_is is)
+      no_context table quirks (table_found table found) (quirks_found quirks listed) (limits_found are)
+      (λ allows. none (subst AllowsContext (sym says.context_is) allows)) (subst (λ name. IsRefusalOf name BadContext why) says.context_is is)
 
   pub tells : (table : Entities) (quirks : List QuirkLine) {limits : Bounds} → IsTable table → IsQuirks quirks → AreLimits (limits_from line.nodes line.open)
-      → AllowsContext (name_of line.command.context) → limits ≡ limits_from line.nodes line.open → TellsOptions world surroundings words (told_with line table quirks limits)
-  tells table quirks found listed are allows is =
-      let its_table = table_found table found in let its_quirks = quirks_found quirks listed in let within = limits_found are in
-      let input = ap (λ (b : Bounds). b.input) (is ∙ limits_are) in let tree = ap (λ (b : Bounds). b.tree) (is ∙ limits_are) in search rules
+      → AllowsContext (name_of line.command.context) → limits ≡ limits_from line.nodes line.open
+      → TellsOptions world surroundings words (told_with line table quirks limits)
+  tells table quirks found listed are allows is = let its_table = table_found table found in let its_quirks = quirks_found quirks listed in
+      let within = limits_found are in
+      let input = ap (λ (b : Bounds). b.input) (is ∙ limits_are) in
+      let tree = ap (λ (b : Bounds). b.tree) (is ∙ limits_are) in
+      search rules

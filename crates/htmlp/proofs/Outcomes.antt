@@ -1,9 +1,9 @@
 -- What comes of a call that is passed up.
-use Rattle.htmlp.proofs.Names.{◌≡◌, Result, Ok, Err, None, MatchResult, ap, refl, sym, subst, IsErrAnd, Refusal, Fault, IsRefusalOf}
+use Rattle.htmlp.proofs.Names.{◌≡◌, Result, Ok, Err, None, MatchResult, ap, refl, sym, subst, IsErrAnd, Refusal, Fault, IsRefusalOf, IsOutcome}
 use Rattle.htmlp.specs.declared.fault.Fault.TheVariants as fault
-use Rattle.htmlp.specs.Program.{IsOutcome}
 
-pub refused : (outcome : Result (Unit {0}) Fault) (refusal : Refusal) → IsErrAnd outcome (λ f. f ≡ fault.Refused refusal None) → IsOutcome None (Err refusal) outcome
+pub refused : (outcome : Result (Unit {0}) Fault) (refusal : Refusal) → IsErrAnd outcome (λ f. f ≡ fault.Refused refusal None)
+    → IsOutcome None (Err refusal) outcome
 refused (Ok _) refusal is = absurd is
 refused (Err f) refusal is = subst (IsRefusalOf None refusal) (sym is) (refl, refl)
 

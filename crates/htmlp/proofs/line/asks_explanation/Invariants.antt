@@ -1,5 +1,4 @@
-use Rattle.htmlp.proofs.Names.{◌≡◌, drop, map, string_bytes}
-use Rattle.htmlp.specs.Line.{asks_explanation}
+use Rattle.htmlp.proofs.Names.{◌≡◌, drop, map, string_bytes, asks_explanation}
 use Rattle.htmlp.proofs.line.asks_explanation.Given as goal
 
 -- the words that are left ask for it as all do

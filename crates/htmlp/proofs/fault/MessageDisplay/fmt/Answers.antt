@@ -1,5 +1,4 @@
-use Rattle.std.proofs.Common.{arith}
-use Rattle.std.proofs.lemmas.Grind.{common_steps}
+use Rattle.htmlp.proofs.Names.{arith, common_steps}
 use Rattle.htmlp.proofs.fault.MessageDisplay.fmt.Goals as goal
 
 pub loop-word-preserved : goal.loop-word-preserved

@@ -1,5 +1,4 @@
-use Rattle.htmlp.proofs.Names.{take}
-use Rattle.std.specs.Fmt.{HasWritten, IsPlainFormatter}
+use Rattle.htmlp.proofs.Names.{take, HasWritten, IsPlainFormatter}
 use Rattle.htmlp.proofs.AllParts.{all_parts}
 use Rattle.htmlp.proofs.fault.MessageDisplay.fmt.Given as goal
 
