@@ -82,7 +82,8 @@ fn add_entry(flat: &mut Vec<u8>, room: &mut String, key: &str, value: &Value) ->
 
 /// The flat form of an object's members.
 fn flat_of(alloc: Global, members: &Map<String, Value>) -> Result<Vec<u8>, Refusal>
-    ensures ok { IfOk result (λ flat. (table : Entities) × (entities_of (members_view members.now.entries) ≡ Ok table) × IsReadable table × (flat_of table ≡ flat.items)) }
+    ensures ok { IfOk result (λ flat. (table : Entities) × (entities_of (members_view members.now.entries) ≡ Ok table) × IsReadable table
+        × (flat_of table ≡ flat.items)) }
     ensures err { IfErr result (λ e. IsRefusedWith (entities_of (members_view members.now.entries)) e) }
 {
     let mut flat = Vec::from_slice(alloc, &[1])?;

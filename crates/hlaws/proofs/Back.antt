@@ -1,5 +1,5 @@
 -- Plain lists of trees and plain documents come back, as their tokens are read and build them.
-use Rattle.hlaws.proofs.Names.{◌≡◌, ℕ, ◌≤◌, List, ◌++◌, length, map, None, Ok, refl, sym, ap, ◌∙◌, subst, IsUtf8, ParseError, Placed, input_errors, Policy, read_len, refusal_of, Tok, Tokens, texts, Goes, State, Steps, reads_in, input_text, start_of, start_kind, ParseOptions, manner, policy, Parse, Parses, accepted, token_placed, decoded_text, in_order, order-permutes, order-sorted, take, ParseCase, first_state, take-length, BadBytes, rules, suc, ◌+◌, Bool, true, false, not, ◌∷◌, arith, Forest, size, BuildsForest, begins_with_line_feed, trees, PlainBuilds, ActsAs, [], Some, ◌⊎◌, inl, inr, ne_eqb, false≢true, none, tree, children_of, join-none, raw_kind, tag_named, tag_text, Tag, Mode, InBody, InCaption, InCell, InTable, InTableBody, InRow, fragment_begins, rule_of, perform, eof, Done, Rule, step_begun, ends, goes, Content, Escaping, fits_mode, fits_current, is_flow_mode, numbered_forest, AreTexts, AreRead, fragment, is_context, token_taken, row, texts_in, Inside, are_content, are_content_if, in_context_of, is_form_element, plain_tokens, IsQuiet, stack, erased, node, context_mode, Keep, FitsForest, GivesForest, PlainComesBack, written, ◌&&◌, ◌||◌, nat_le, bytes_eq, codes, is_refused, tags, is_plain, is_context_name, IsBuiltForest, What, no_tree, document, PlainDocumentComesBack, GivesDocument, without_identifiers, ComesBackWithoutIdentifiers, written_among, node_text, is_raw_in, name_in, max, depth}
+use Rattle.hlaws.proofs.Names.{◌≡◌, ℕ, ◌≤◌, List, ◌++◌, length, map, None, Ok, refl, sym, ap, ◌∙◌, subst, IsUtf8, ParseError, Placed, input_errors, Policy, read_len, refusal_of, Tok, Tokens, texts, Goes, State, Steps, reads_in, input_text, start_of, start_kind, ParseOptions, manner, policy, Parse, Parses, accepted, token_placed, decoded_text, in_order, order-permutes, order-sorted, take, ParseCase, first_state, take-length, BadBytes, rules, suc, ◌+◌, Bool, true, false, not, ◌∷◌, arith, Forest, size, BuildsForest, begins_with_line_feed, trees, PlainBuilds, ActsAs, [], Some, ◌⊎◌, inl, inr, ne_eqb, false≢true, none, tree, children_of, join-none, raw_kind, tag_named, tag_text, Tag, Mode, InBody, InCaption, InCell, InTable, InTableBody, InRow, fragment_begins, rule_of, perform, eof, Done, Rule, step_begun, ends, goes, Content, Escaping, fits_mode, fits_current, is_flow_mode, numbered_forest, HoldsUtf8, AreRead, fragment, is_context, token_taken, row, texts_in, Inside, are_content, are_content_if, in_context_of, is_form_element, plain_tokens, IsQuiet, stack, erased, node, context_mode, Keep, FitsForest, GivesForest, PlainComesBack, written, ◌&&◌, ◌||◌, nat_le, bytes_eq, codes, is_refused, tags, is_plain, is_context_name, IsBuiltForest, What, no_tree, document, PlainDocumentComesBack, GivesDocument, without_identifiers, ComesBackWithoutIdentifiers, written_among, node_text, is_raw_in, name_in, max, depth}
 use Rattle.htext.specs.declared.BadBytes.TheVariants as bad
 use Rattle.htext.proofs.Refusals as refusals
 use Rattle.hlaws.proofs.OneAnswer.{all-read}
@@ -133,7 +133,7 @@ flow_ends : (m : Mode) → is_flow_mode m ≡ true → ends_body m ≡ true
 flow_ends InBody h = refl
 flow_ends _ h = cc
 
-module _ (opts : ParseOptions) (escaping : Escaping) (context : List ℕ) (allowed_here : is_context context ≡ true) (l : Forest (List ℕ)) (utf8 : AreTexts l)
+module _ (opts : ParseOptions) (escaping : Escaping) (context : List ℕ) (allowed_here : is_context context ≡ true) (l : Forest (List ℕ)) (utf8 : HoldsUtf8 l)
     (fits : FitsForest opts (written escaping (Some context) l) l)
     (read : AreRead opts.table Keep (raw_kind (tag_named context)) (written escaping (Some context) l) (plain_tokens texts l ++ eof ∷ [])) where
   abbrev start_state : State (List ℕ)
@@ -220,7 +220,7 @@ document_comes_back opts escaping l is_table core utf8 plain within fits = let r
 
 -- IDENTIFIERS
 
-texts_without : (l : Forest (List ℕ)) → AreTexts l → AreTexts (without_identifiers l)
+texts_without : (l : Forest (List ℕ)) → HoldsUtf8 l → HoldsUtf8 (without_identifiers l)
 texts_without none u = u
 texts_without (tree n (forest.element name attrs) kids rest) u = (u.0, u.1, u.2, texts_without rest u.3)
 texts_without (tree n (forest.text t) kids rest) u = (u.0, u.1, texts_without rest u.2)

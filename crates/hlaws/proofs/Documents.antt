@@ -1,5 +1,5 @@
 -- The tokens of a plain document build it: its parts in their order, each in the insertion mode that takes it.
-use Rattle.hlaws.proofs.Names.{rules as std_rules, ◌≡◌, ℕ, suc, ◌+◌, ◌<◌, ◌≤◌, Bool, true, false, ◌&&◌, cond, List, [], ◌∷◌, ◌++◌, length, map, None, Some, refl, sym, ◌∙◌, ap, subst, arith, inl, and_parts, ne_eqb, lt-leb, false≢true, nat_le, bytes_eq, bytes_eq-Decides, codes, chars, Attribute, What, element, text, Forest, none, tree, size, times, join, graft_last, if_text, text_before, LastIn, OpenNode, is_void, tag_named, Tag, texts, Goes, Start, End, Comment, Mode, InBody, Text, family_of, rule_of, perform, void, raw, Token, start, end, comment, character, eof, Control, State, Done, Rule, step_begun, ends, goes_again, Step, goes, Inside, inside_element, are_content, plain_tokens, numbered_forest, under, AreTexts, Thinned, same, Listed, with_error, Limits, document_begins, flow_of, mode_error, Again, kind_of, is_self_closing, Chain, is_dropped, finished, put, Initial, BeforeHtml, BeforeHead, InHead, AfterHead, AfterBody, AfterAfterBody, TokenKind, Ws, is_plain, is_plain_text, is_plain_comment, are_plain_attributes, is_empty_text, is_leaf, leaves_then, comments_then, doctype_then, element_then, is_metadata, inside_head, are_metadata, body_on, are_in_html, html_on, is_plain_document, Texts, ActsAs, depth, is_flow_mode, is_character_token, trees, PlainDocumentBuilds, added, forces_quirks}
+use Rattle.hlaws.proofs.Names.{rules as std_rules, ◌≡◌, ℕ, suc, ◌+◌, ◌<◌, ◌≤◌, Bool, true, false, ◌&&◌, cond, List, [], ◌∷◌, ◌++◌, length, map, None, Some, refl, sym, ◌∙◌, ap, subst, arith, inl, and_parts, ne_eqb, lt-leb, false≢true, nat_le, bytes_eq, bytes_eq-Decides, codes, chars, Attribute, What, element, text, Forest, none, tree, size, times, join, graft_last, if_text, text_before, LastIn, OpenNode, is_void, tag_named, Tag, texts, Goes, Start, End, Comment, Mode, InBody, Text, family_of, rule_of, perform, void, raw, Token, start, end, comment, character, eof, Control, State, Done, Rule, step_begun, ends, goes_again, Step, goes, Inside, inside_element, are_content, plain_tokens, numbered_forest, under, HoldsUtf8, Thinned, same, Listed, with_error, Limits, document_begins, flow_of, mode_error, Again, kind_of, is_self_closing, Chain, is_dropped, finished, put, Initial, BeforeHtml, BeforeHead, InHead, AfterHead, AfterBody, AfterAfterBody, TokenKind, Ws, is_plain, is_plain_text, is_plain_comment, are_plain_attributes, is_empty_text, is_leaf, leaves_then, comments_then, doctype_then, element_then, is_metadata, inside_head, are_metadata, body_on, are_in_html, html_on, is_plain_document, Texts, ActsAs, depth, is_flow_mode, is_character_token, trees, PlainDocumentBuilds, added, forces_quirks}
 use Rattle.hnodes.specs.Forest as forest
 use Rattle.hmodes.specs.Head.{in_head as head_rule}
 use Rattle.hmodes.specs.declared.token_kind.TokenKind.TheVariants.{Eof}
@@ -91,7 +91,7 @@ module _ (limits : Limits) where
       → made + size l ≤ limits.nodes → k + depth l ≤ limits.depth → Adds (plain_tokens texts l) l made f d s There
 
   abbrev Law : (Forest Name → Bool) → (d k : ℕ) → (Here There : Stage) → Type 0
-  Law test d k Here There = (l : Forest Name) → AreTexts l → test l ≡ true → At l d k Here There
+  Law test d k Here There = (l : Forest Name) → HoldsUtf8 l → test l ≡ true → At l d k Here There
 
   abbrev leaf_tokens : What Name → List (Token Name)
   leaf_tokens (text t) = map (λ c. character c) (chars t)
@@ -99,7 +99,7 @@ module _ (limits : Limits) where
   leaf_tokens w = []
 
   abbrev LeafLaw : Texts → (d : ℕ) → Stage → Type 0
-  LeafLaw which d Here = (b : ℕ) (w : What Name) (rest : Forest Name) (made : ℕ) (f : Forest Name) (s : State Name) → AreTexts (tree b w none rest)
+  LeafLaw which d Here = (b : ℕ) (w : What Name) (rest : Forest Name) (made : ℕ) (f : Forest Name) (s : State Name) → HoldsUtf8 (tree b w none rest)
       → is_leaf which w none rest ≡ true → Spot made f d → Here made f s → (is_text w ≡ true → text_before (LastIn d) f ≡ None) → made < limits.nodes
       → Adds (leaf_tokens w) (tree b w none none) made f d s Here
 
@@ -130,7 +130,7 @@ module _ (limits : Limits) where
   ends_add Here d k (tree b w kids rest) u h = absurd (false≢true h)
 
   leaf_then : {Here : Stage} (There : Stage) (which : Texts) (d k : ℕ) → LeafLaw which d Here → (b : ℕ) (w : What Name) (kids rest : Forest Name)
-      → AreTexts (tree b w kids rest) → is_leaf which w kids rest ≡ true → At rest d k Here There → At (tree b w kids rest) d k Here There
+      → HoldsUtf8 (tree b w kids rest) → is_leaf which w kids rest ≡ true → At rest d k Here There → At (tree b w kids rest) d k Here There
   leaf_then There which d k leaf b (forest.comment t) none rest u is others made f s q here no_text room deep = node_then There b (forest.comment t) none rest k
       others (comment t ∷ []) q (λ e. refl) room deep (leaf b (forest.comment t) rest made f s u is q here (λ x. absurd cc) (omega arith))
   leaf_then There which d k leaf b (text t) none rest u is others made f s q here no_text room deep = node_then There b (text t) none rest k others

@@ -1,5 +1,5 @@
 -- Names that are texts, and lists that the table calls content, are as the law of building asks.
-use Rattle.hlaws.proofs.Names.{false_from_ne_true, ◌≡◌, ℕ, Bool, true, false, cond, List, [], ◌∷◌, refl, sym, ◌∙◌, ap, bytes_eq-Decides, bytes_eq, Tag, tag_text, tags, tag_named, texts, family_of, holds_list_items, is_dl, is_a, is_button, tag_among, different, nat_tests, zero, suc, ◌<◌, not, ◌&&◌, ◌++◌, subst, arith, ◌⊎◌, inl, inr, and_parts, false≢true, eqb-true, not-true, encodes-chars, encode_ascii, IsUtf8, chars, encode_utf8, encode_utf8_all, codes, ◌==◌, list_all, Forest, none, tree, element, text, Content, takes_comments, texts_in, takes_space, AreTexts, Inside, inside_element, inside_node, is_nested, are_content, is_plain_node, is_plain_text, is_plain_comment, has_no_null_or_return, is_among_texts, begins_with, begins_with_text, begins_with_line_feed, drops_line_feed, is_empty_text, encodes-IsAscii, chars_from_encodes, IsAscii, is_ascii_whitespace, Texts}
+use Rattle.hlaws.proofs.Names.{false_from_ne_true, ◌≡◌, ℕ, Bool, true, false, cond, List, [], ◌∷◌, refl, sym, ◌∙◌, ap, bytes_eq-Decides, bytes_eq, Tag, tag_text, tags, tag_named, texts, family_of, holds_list_items, is_dl, is_a, is_button, tag_among, different, nat_tests, zero, suc, ◌<◌, not, ◌&&◌, ◌++◌, subst, arith, ◌⊎◌, inl, inr, and_parts, false≢true, eqb-true, not-true, encodes-chars, encode_ascii, IsUtf8, chars, encode_utf8, encode_utf8_all, codes, ◌==◌, list_all, Forest, none, tree, element, text, Content, takes_comments, texts_in, takes_space, HoldsUtf8, Inside, inside_element, inside_node, is_nested, are_content, is_plain_node, is_plain_text, is_plain_comment, has_no_null_or_return, is_among_texts, begins_with, begins_with_text, begins_with_line_feed, drops_line_feed, is_empty_text, encodes-IsAscii, chars_from_encodes, IsAscii, is_ascii_whitespace, Texts}
 use Rattle.names.specs.declared.tag.Tag.TheVariants as tag
 use Rattle.hmodes.specs.declared.family.Family.TheVariants as family
 use Rattle.hlaws.proofs.Content.{is_p, three, four}
@@ -119,7 +119,7 @@ lf_safe false (tree b (text t) kids rest) h = λ is. refl
 lf_safe true (tree b (text t) kids rest) h = λ is. first_line_feed t is (not-true _ h)
 lf_safe v _ h = tt
 
-pub good : (i : Inside) (l : Forest (List ℕ)) → TextsFit i → AreTexts l → are_content i l ≡ true → Good texts i l
+pub good : (i : Inside) (l : Forest (List ℕ)) → TextsFit i → HoldsUtf8 l → are_content i l ≡ true → Good texts i l
 good i none fit u h = tt
 good i (tree b (element x attrs) kids rest) fit u h = let h3 = three i b (element x attrs) kids rest h in let f = four _ _ _ _ h3.node in (
   f.0,

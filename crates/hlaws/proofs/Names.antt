@@ -6,7 +6,7 @@ pub use Rattle.hadopt.specs.Places.{is_fostering}
 pub use Rattle.hadopt.specs.Reconstructs.{reconstructed}
 pub use Rattle.hadopt.specs.Site.{Goes, Outcome, Refused, stack, with_error, trees}
 pub use Rattle.hlaws.specs.Building.{BuildsForest, fits_mode, fits_current, is_flow_mode, numbered_forest, holds_list_items, is_dl, takes_space, under, EntriesOpen, Thinned, same, kept, lost, EntriesLower, IsQuiet, is_colgroup, depth, ActsAs, is_character_token, closes_p, AllLower, IsBuiltForest}
-pub use Rattle.hlaws.specs.ComesBack.{decoded_text, AreTexts, AreRead, PlainTokens, FitsForest, GivesForest, PlainComesBack, PlainBuilds, AreUtf8}
+pub use Rattle.hlaws.specs.ComesBack.{decoded_text, HoldsUtf8, AreRead, PlainTokens, FitsForest, GivesForest, PlainComesBack, PlainBuilds, AreUtf8}
 pub use Rattle.hlaws.specs.DocumentComesBack.{PlainDocumentTokens, PlainDocumentBuilds, PlainDocumentComesBack, GivesDocument, without_identifiers, ComesBackWithoutIdentifiers}
 pub use Rattle.hlaws.specs.OneAnswer.{ExactlyOne, OneAnswer, OneParse}
 pub use Rattle.hlaws.specs.PlainTokens.{plain_tokens}

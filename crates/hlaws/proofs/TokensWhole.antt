@@ -1,5 +1,5 @@
 -- Plain lists, in every context, and plain documents as they are written are read as their own tokens.
-use Rattle.hlaws.proofs.Names.{nat_tests, ◌≡◌, ℕ, suc, ◌+◌, Bool, true, false, cond, Some, None, List, [], ◌∷◌, ◌++◌, map, length, drop, refl, sym, ◌∙◌, ap, subst, arith, append_assoc, true≢false, and_parts, and_from, and_right, or_parts, or_right, false_from_ne_true, ◌==◌, codes, to_ascii_lowercase, list_all, first_is, Placed, characters, begins, spells, Entities, piece_span, Standing, raw_character, has_references, is_raw_end, is_end_tag_of, may_end, ends_name, plain_piece, end, character, begins_with, has_part, Option, spells_in_any_case, raw_end, level, is_raw, in_raw, backwards, after_characters, all_weaker, not, ◌&&◌, ◌||◌, or_from, not-true, bytes_eq-Decides, encodes-chars, scalars-chars, chars, IsUtf8, flat_map, list_any, RawKind, Tag, raw_kind, is_refused, is_void, tag_named, tag_text, tags, IsTable, HasCore, Attribute, standing_after, is_known, Token, start, comment, Content, Role, Escaping, escaped, row, takes_role, are_plain_attributes, is_plain_comment, has_no_null_or_return, is_plain_name_byte, start_tag_text, end_tag_text, bytes_eq, or_second, is_plain_name, is_metadata, attribute_text, AreUtf8, nat_lt, append-nil, false≢true, map-append, Forest, none, tree, Eof, at_start, texts, eof, written_char, takes_comments, Inside, inside_element, in_context_of, is_form_element, are_content, are_content_if, is_among_texts, plain_tokens, AreTexts, AreRead, PlainTokens, decoded_text, token_taken, chars-nil, IsUtf8-nil, Bom, Keep, end_errors, Texts, has_no_references, written_among, texts_in, all-characters, is_space, name_bytes, What, Span, null_errors, is_greater, lowered, Drop, is_plain, ends_document, is_leaf, leaves_then, comments_then, doctype_then, element_then, inside_head, are_metadata, body_on, are_in_html, is_plain_document, PlainDocumentTokens, in_data, IsDoctype}
+use Rattle.hlaws.proofs.Names.{nat_tests, ◌≡◌, ℕ, suc, ◌+◌, Bool, true, false, cond, Some, None, List, [], ◌∷◌, ◌++◌, map, length, drop, refl, sym, ◌∙◌, ap, subst, arith, append_assoc, true≢false, and_parts, and_from, and_right, or_parts, or_right, false_from_ne_true, ◌==◌, codes, to_ascii_lowercase, list_all, first_is, Placed, characters, begins, spells, Entities, piece_span, Standing, raw_character, has_references, is_raw_end, is_end_tag_of, may_end, ends_name, plain_piece, end, character, begins_with, has_part, Option, spells_in_any_case, raw_end, level, is_raw, in_raw, backwards, after_characters, all_weaker, not, ◌&&◌, ◌||◌, or_from, not-true, bytes_eq-Decides, encodes-chars, scalars-chars, chars, IsUtf8, flat_map, list_any, RawKind, Tag, raw_kind, is_refused, is_void, tag_named, tag_text, tags, IsTable, HasCore, Attribute, standing_after, is_known, Token, start, comment, Content, Role, Escaping, escaped, row, takes_role, are_plain_attributes, is_plain_comment, has_no_null_or_return, is_plain_name_byte, start_tag_text, end_tag_text, bytes_eq, or_second, is_plain_name, is_metadata, attribute_text, AreUtf8, nat_lt, append-nil, false≢true, map-append, Forest, none, tree, Eof, at_start, texts, eof, written_char, takes_comments, Inside, inside_element, in_context_of, is_form_element, are_content, are_content_if, is_among_texts, plain_tokens, HoldsUtf8, AreRead, PlainTokens, decoded_text, token_taken, chars-nil, IsUtf8-nil, Bom, Keep, end_errors, Texts, has_no_references, written_among, texts_in, all-characters, is_space, name_bytes, What, Span, null_errors, is_greater, lowered, Drop, is_plain, ends_document, is_leaf, leaves_then, comments_then, doctype_then, element_then, inside_head, are_metadata, body_on, are_in_html, is_plain_document, PlainDocumentTokens, in_data, IsDoctype}
 use Rattle.names.specs.declared.raw.RawKind.TheVariants as kind
 use Rattle.hlaws.proofs.TokensText.{is_clean_char, clean_not_null, tail_of, both_of, Spells, spells-nil, spells-append, spells_ascii, spells_text, clean_text, no_part, no_front, escaped_as, split, spells_utf8, text_characters, begins_marked, unmarked}
 use Rattle.hlaws.proofs.TokensCuts.{led, IsAttribute, Cuts, one, join, cuts_as, cuts_none, is_good, IsElementName, an_end_tag, spells_is, no_characters, text_cuts, name_byte_good, goods_ascii, begins_letter, is_some_name, AreAttributes, AreNew, attribute_codes, after_start, start_tag_cuts, end_tag_cuts, comment_cuts, name_bytes_are}
@@ -313,10 +313,10 @@ pub record OneText (how : Escaping) (which : Texts) (l : Forest (List ℕ)) : Ty
   pub text_is : written_among how false l ≡ escaped how setting.Text t
   pub tokens_are : plain_tokens texts l ≡ map (λ c. character c) (chars t)
 
-one_text : (how : Escaping) (inside : Inside) (l : Forest (List ℕ)) → holds_text inside.content ≡ true → is_among_texts inside.texts [] ≡ true → AreTexts l
+one_text : (how : Escaping) (inside : Inside) (l : Forest (List ℕ)) → holds_text inside.content ≡ true → is_among_texts inside.texts [] ≡ true → HoldsUtf8 l
     → are_content inside l ≡ true → OneText how inside.texts l
 one_text how inside l h empty u p = go l u (sym (is_one inside (λ r. no_role inside.content r h) (no_comment inside.content h) l) ∙ p) where
-  go : (l : Forest (List ℕ)) → AreTexts l → is_one_text inside.texts l ≡ true → OneText how inside.texts l
+  go : (l : Forest (List ℕ)) → HoldsUtf8 l → is_one_text inside.texts l ≡ true → OneText how inside.texts l
   go none u e = let text_is = ap (flat_map (written_char how setting.Text)) (sym chars-nil) in
       record
       { t = []; utf8 = IsUtf8-nil; clean = refl; among = empty; raw_is = refl; text_is = text_is; tokens_are = ap (map (λ c. character c)) (sym chars-nil) }
@@ -397,7 +397,7 @@ doctype_cuts table end_at here text rest is_data e = let a = split text (codes "
 
 -- PARTS OF A DOCUMENT
 
-pub texts_after : (m : ℕ) (w : What (List ℕ)) (kids rest : Forest (List ℕ)) → AreTexts (tree m w kids rest) → AreTexts rest
+pub texts_after : (m : ℕ) (w : What (List ℕ)) (kids rest : Forest (List ℕ)) → HoldsUtf8 (tree m w kids rest) → HoldsUtf8 rest
 texts_after m (forest.element x attrs) kids rest u = u.3
 texts_after m (forest.text t) kids rest u = u.2
 texts_after m (forest.comment t) kids rest u = u.2
@@ -537,7 +537,7 @@ module _ (table : Entities) (is_table : IsTable table) (core : HasCore table) (h
       })
 
   an_element : (name : List ℕ) (attrs : List (Attribute (List ℕ))) (kids : Forest (List ℕ)) (inside : Inside) (k : RawKind) (v : Bool)
-      → raw_kind (tag_named name) ≡ k → fits k (row (tag_named name)).1 v ≡ true → IsElementName name → StartTag name attrs → AreTexts kids
+      → raw_kind (tag_named name) ≡ k → fits k (row (tag_named name)).1 v ≡ true → IsElementName name → StartTag name attrs → HoldsUtf8 kids
       → (is_raw k ≡ true → are_content (inside_element (tag_named name) inside) kids ≡ true) → ReadsList kids → Element name attrs kids k v
   an_element name attrs kids inside kind.None true is_kind fit is_name s u h kids_read = reads-append (start_tag_reads name attrs s is_kind) (reads-nil table)
   an_element name attrs kids inside kind.None false is_kind fit is_name s u h kids_read =
@@ -557,7 +557,7 @@ module _ (table : Entities) (is_table : IsTable table) (core : HasCore table) (h
 
   -- a node, and then others
   pub element_reads : (m : ℕ) (inside : Inside) (name : List ℕ) (attrs : List (Attribute (List ℕ))) (kids rest : Forest (List ℕ)) → IsKnownName name
-      → AreUtf8 attrs → are_plain_attributes attrs ≡ true → AreTexts kids
+      → AreUtf8 attrs → are_plain_attributes attrs ≡ true → HoldsUtf8 kids
       → (is_raw (raw_kind (tag_named name)) ≡ true → are_content (inside_element (tag_named name) inside) kids ≡ true) → ReadsList kids → ReadsList rest
       → ReadsList (tree m (forest.element name attrs) kids rest)
   element_reads m inside name attrs kids rest known u plain us h kids_read rest_read = let s = a_start_tag name attrs known.is_name u plain in
@@ -573,7 +573,7 @@ module _ (table : Entities) (is_table : IsTable table) (core : HasCore table) (h
       → ReadsList (tree m (forest.comment t) kids rest)
   comment_then m t kids rest u plain rest_read = reads-append (comment_reads t u plain) rest_read
 
-  pub list_reads : (inside : Inside) (l : Forest (List ℕ)) → AreTexts l → are_content inside l ≡ true → ReadsList l
+  pub list_reads : (inside : Inside) (l : Forest (List ℕ)) → HoldsUtf8 l → are_content inside l ≡ true → ReadsList l
   list_reads inside none u h = reads-nil table
   list_reads inside (tree n (forest.element name attrs) kids rest) u h = let k = three inside n (forest.element name attrs) kids rest h in
       let f = four _ _ _ _ k.node in
@@ -609,7 +609,7 @@ module _ (table : Entities) (is_table : IsTable table) (core : HasCore table) (h
   some_inside None l h = absurd (false≢true h)
   some_inside (Some inside) l h = (inside, h)
 
-  pub in_kind : (k : RawKind) (c : Content) (form : Bool) (l : Forest (List ℕ)) → fits_context k c ≡ true → AreTexts l
+  pub in_kind : (k : RawKind) (c : Content) (form : Bool) (l : Forest (List ℕ)) → fits_context k c ≡ true → HoldsUtf8 l
       → are_content_if (in_context_of c form) l ≡ true → AreRead table Keep k (written_among how (has_no_references k) l) (plain_tokens texts l ++ eof ∷ [])
   in_kind kind.None c form l fit u h = let i = some_inside (in_context_of c form) l h in as_data Keep l (list_reads i.0 l u i.1) refl
   in_kind k c form l fit u h = let o = one_text how (text_inside form) l refl refl u (text_context k c form l refl fit h) in
@@ -621,13 +621,13 @@ module _ (table : Entities) (is_table : IsTable table) (core : HasCore table) (h
 
   -- lists that pass a test
   abbrev AreAllRead : (Forest (List ℕ) → Bool) → Type 0
-  AreAllRead test = (l : Forest (List ℕ)) → AreTexts l → test l ≡ true → ReadsList l
+  AreAllRead test = (l : Forest (List ℕ)) → HoldsUtf8 l → test l ≡ true → ReadsList l
 
   ends_read : AreAllRead ends_document
   ends_read none u h = reads-nil table
   ends_read (tree m w kids rest) u h = absurd (false≢true h)
 
-  leaf_read : (which : Texts) (m : ℕ) (w : What (List ℕ)) (kids rest : Forest (List ℕ)) → AreTexts (tree m w kids rest) → is_leaf which w kids rest ≡ true
+  leaf_read : (which : Texts) (m : ℕ) (w : What (List ℕ)) (kids rest : Forest (List ℕ)) → HoldsUtf8 (tree m w kids rest) → is_leaf which w kids rest ≡ true
       → ReadsList rest → ReadsList (tree m w kids rest)
   leaf_read which m (forest.comment t) kids rest u h others = comment_then m t kids rest u.0 (and_parts (is_plain_comment t) _ h).0 others
   leaf_read which m (forest.text t) kids rest u h others = text_then m t kids rest u.0 (grind arith) others

@@ -29,12 +29,12 @@ abbrev pub AreUtf8 : List (Attribute (List ℕ)) → Type 0
 AreUtf8 [] = Unit {0}
 AreUtf8 (a ∷ others) = IsUtf8 a.0 × IsUtf8 a.1 × AreUtf8 others
 
-abbrev pub AreTexts : Forest (List ℕ) → Type 0
-AreTexts none = Unit {0}
-AreTexts (tree b (forest.element name attrs) kids rest) = IsUtf8 name × AreUtf8 attrs × AreTexts kids × AreTexts rest
-AreTexts (tree b (forest.text t) kids rest) = IsUtf8 t × AreTexts kids × AreTexts rest
-AreTexts (tree b (forest.comment t) kids rest) = IsUtf8 t × AreTexts kids × AreTexts rest
-AreTexts (tree b w kids rest) = AreTexts kids × AreTexts rest
+abbrev pub HoldsUtf8 : Forest (List ℕ) → Type 0
+HoldsUtf8 none = Unit {0}
+HoldsUtf8 (tree b (forest.element name attrs) kids rest) = IsUtf8 name × AreUtf8 attrs × HoldsUtf8 kids × HoldsUtf8 rest
+HoldsUtf8 (tree b (forest.text t) kids rest) = IsUtf8 t × HoldsUtf8 kids × HoldsUtf8 rest
+HoldsUtf8 (tree b (forest.comment t) kids rest) = IsUtf8 t × HoldsUtf8 kids × HoldsUtf8 rest
+HoldsUtf8 (tree b w kids rest) = HoldsUtf8 kids × HoldsUtf8 rest
 
 -- the characters of the bytes of an input, with or without a byte order mark at their front
 abbrev pub decoded_text : Bom → List ℕ → List Placed
@@ -50,13 +50,13 @@ pub record AreRead (table : Entities) (bom : Bom) (kind : RawKind) (bytes : List
 
 -- A plain list as it is written is read as its own tokens.
 abbrev pub PlainTokens : Type 0
-PlainTokens = (table : Entities) (escaping : Escaping) (context : List ℕ) (l : Forest (List ℕ)) → IsTable table → HasCore table → AreTexts l
+PlainTokens = (table : Entities) (escaping : Escaping) (context : List ℕ) (l : Forest (List ℕ)) → IsTable table → HasCore table → HoldsUtf8 l
     → is_plain context l ≡ true
     → AreRead table Keep (raw_kind (tag_named context)) (written escaping (Some context) l) (plain_tokens texts l ++ eof ∷ [])
 
 -- Its tokens build it from each quiet state.
 abbrev pub PlainBuilds : Type 0
-PlainBuilds = (inside : Inside) (l : Forest (List ℕ)) (s : State (List ℕ)) (ts : List (PlacedToken (List ℕ))) (q : IsQuiet texts inside s) → AreTexts l
+PlainBuilds = (inside : Inside) (l : Forest (List ℕ)) (s : State (List ℕ)) (ts : List (PlacedToken (List ℕ))) (q : IsQuiet texts inside s) → HoldsUtf8 l
     → are_content inside l ≡ true
     → BeginsWell texts l q.current.node s → HasTreeRoom texts l s → map (λ t. t.token) ts ≡ plain_tokens texts l → BuildsForest texts l q.current.node ts s
 
@@ -75,6 +75,6 @@ pub record GivesForest (opts : ParseOptions) (context bytes : List ℕ) (l : For
 
 -- Each plain list comes back when what is written of it is parsed.
 abbrev pub PlainComesBack : Type 0
-PlainComesBack = (opts : ParseOptions) (escaping : Escaping) (context : List ℕ) (l : Forest (List ℕ)) → IsTable opts.table → HasCore opts.table → AreTexts l
+PlainComesBack = (opts : ParseOptions) (escaping : Escaping) (context : List ℕ) (l : Forest (List ℕ)) → IsTable opts.table → HasCore opts.table → HoldsUtf8 l
     → is_plain context l ≡ true
     → FitsForest opts (written escaping (Some context) l) l → GivesForest opts context (written escaping (Some context) l) l

@@ -17,12 +17,12 @@ use Rattle.hserialize.specs.PlainDocument.{is_plain_document}
 use Rattle.hserialize.specs.Written.{written}
 use Rattle.hserialize.specs.declared.escaping.Escaping.{Escaping}
 use Rattle.hlaws.specs.Building.{numbered_forest, depth}
-use Rattle.hlaws.specs.ComesBack.{AreTexts, AreRead}
+use Rattle.hlaws.specs.ComesBack.{HoldsUtf8, AreRead}
 use Rattle.hlaws.specs.PlainTokens.{plain_tokens}
 
 -- A plain document as it is written is read as its own tokens.
 abbrev pub PlainDocumentTokens : Type 0
-PlainDocumentTokens = (table : Entities) (escaping : Escaping) (l : Forest (List ℕ)) → IsTable table → HasCore table → AreTexts l
+PlainDocumentTokens = (table : Entities) (escaping : Escaping) (l : Forest (List ℕ)) → IsTable table → HasCore table → HoldsUtf8 l
     → is_plain_document l ≡ true → AreRead table Drop kind.None (written escaping None l) (plain_tokens texts l ++ eof ∷ [])
 
 -- the nodes and the open elements that these children of a document need, besides it, are within the limits
@@ -38,7 +38,7 @@ pub record BuildsDocument (l : Forest (List ℕ)) (ts : List (PlacedToken (List 
 
 -- Its tokens build it.
 abbrev pub PlainDocumentBuilds : Type 0
-PlainDocumentBuilds = (quirks : List QuirkLine) (limits : Limits) (l : Forest (List ℕ)) (ts : List (PlacedToken (List ℕ))) → AreTexts l
+PlainDocumentBuilds = (quirks : List QuirkLine) (limits : Limits) (l : Forest (List ℕ)) (ts : List (PlacedToken (List ℕ))) → HoldsUtf8 l
     → is_plain_document l ≡ true → FitsDocument limits l → map (λ t. t.token) ts ≡ plain_tokens texts l ++ eof ∷ []
     → BuildsDocument l ts (document_begins quirks limits)
 
@@ -50,7 +50,7 @@ pub record GivesDocument (opts : ParseOptions) (bytes : List ℕ) (l : Forest (L
 
 -- Each plain document comes back when what is written of it is parsed.
 abbrev pub PlainDocumentComesBack : Type 0
-PlainDocumentComesBack = (opts : ParseOptions) (escaping : Escaping) (l : Forest (List ℕ)) → IsTable opts.table → HasCore opts.table → AreTexts l
+PlainDocumentComesBack = (opts : ParseOptions) (escaping : Escaping) (l : Forest (List ℕ)) → IsTable opts.table → HasCore opts.table → HoldsUtf8 l
     → is_plain_document l ≡ true → length (written escaping None l) ≤ opts.input → FitsDocument opts.limits l
     → GivesDocument opts (written escaping None l) l
 
@@ -62,6 +62,6 @@ without_identifiers (tree n w kids rest) = tree n w kids (without_identifiers re
 
 -- Each document that is plain but for identifiers comes back without them.
 abbrev pub ComesBackWithoutIdentifiers : Type 0
-ComesBackWithoutIdentifiers = (opts : ParseOptions) (escaping : Escaping) (l : Forest (List ℕ)) → IsTable opts.table → HasCore opts.table → AreTexts l
+ComesBackWithoutIdentifiers = (opts : ParseOptions) (escaping : Escaping) (l : Forest (List ℕ)) → IsTable opts.table → HasCore opts.table → HoldsUtf8 l
     → is_plain_document (without_identifiers l) ≡ true → length (written escaping None l) ≤ opts.input → FitsDocument opts.limits l
     → GivesDocument opts (written escaping None l) (without_identifiers l)

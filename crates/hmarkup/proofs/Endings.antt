@@ -1,5 +1,5 @@
 -- The end of a doctype, white space and skipped rests in it, a character at a time.
-use Rattle.hmarkup.proofs.Names.{◌≡◌, ℕ, Bool, true, false, not, ◌||◌, eqb, List, [], ◌∷◌, ◌++◌, sym, refl, ap, ◌∙◌, subst, codes, false≢true, eqb-true, and_from, and_parts, not-true, or_from, or_parts, ParseError, ErrorCode, EofInDoctype, Placed, characters, begins, is_empty, all, is_space, is_greater, is_greater_or_end, error, null_errors, Found, force, IsEnd, closed, cut_off, IsSkipped, Skips, not_from_false, if◌then◌else◌, Option, Some, None, append-nil, is_quote, error_if, DoctypeState, Step, Stands, found_by, step_errors, fault_errors, DoctypeGoesOn, goes_to, ends_doctype, refuses, skips, AfterSpace, transport, or-true, or-false, UnexpectedCharacterAfterDoctypeSystemIdentifier, AfterSystemIdentifier, system_ends, system_skips, in_skipped, after_system}
+use Rattle.hmarkup.proofs.Names.{◌≡◌, ℕ, Bool, true, false, not, ◌||◌, eqb, List, [], ◌∷◌, ◌++◌, sym, refl, ap, ◌∙◌, subst, codes, false≢true, eqb-true, and_from, and_parts, not-true, or_from, or_parts, ParseError, ErrorCode, EofInDoctype, Placed, characters, begins, is_empty, all, is_space, is_greater, is_greater_or_end, error, null_errors, Found, force, IsEnd, closed, cut_off, IsSkipped, Skips, not_from_false, if◌then◌else◌, Option, Some, None, append-nil, is_quote, error_if, DoctypeState, Step, DoctypeRelation, found_by, step_errors, fault_errors, DoctypeGoesOn, goes_to, ends_doctype, refuses, skips, AfterSpace, transport, or-true, or-false, UnexpectedCharacterAfterDoctypeSystemIdentifier, AfterSystemIdentifier, system_ends, system_skips, in_skipped, after_system}
 use Rattle.hmarkup.proofs.Marks.{null_errors-append}
 use Rattle.hmarkup.proofs.Characters.{greater_not_space, quote_is, space_not_null, no_null_error}
 -- a lemma of the standard library, under the name by which the crates above cite it
@@ -138,7 +138,7 @@ skips_not_at_end test fault known end rest found errors h = false≢true h.first
 -- A character of a doctype: what goes on after it.
 
 -- what is after the character: the rest of the doctype, or nothing
-abbrev pub Goes : Option DoctypeState → Found → Stands
+abbrev pub Goes : Option DoctypeState → Found → DoctypeRelation
 Goes None known end rest text found errors = (text ≡ []) × (found ≡ known) × (errors ≡ [])
 Goes (Some phase) known end rest text found errors = DoctypeGoesOn phase known end rest text found errors
 
@@ -202,7 +202,7 @@ module _ (known : Found) (end : ℕ) (rest : List Placed) (p : Placed) (ps : Lis
   refused_at code eg e = plain_errors p (greater_error p eg) (Some (error code p.at)) errors ∙ ap (λ (x : List ParseError). error code p.at ∷ x) e
 
 -- White space before a production, a character at a time.
-module _ (T : Bool → Stands) (spaced : Bool) (end : ℕ) (rest : List Placed) (found : Found) (errors : List ParseError) where
+module _ (T : Bool → DoctypeRelation) (spaced : Bool) (end : ℕ) (rest : List Placed) (found : Found) (errors : List ParseError) where
   -- white space leaves the production after it
   from_space : (p : Placed) (ps space after : List Placed) → p ∷ ps ≡ space ++ after → all is_space space ≡ true
       → T (spaced || not (is_empty space)) end rest after found errors → is_space p.ch ≡ true
@@ -229,12 +229,12 @@ module _ (T : Bool → Stands) (spaced : Bool) (end : ℕ) (rest : List Placed) 
   with_none text h = record { space = []; after = text; text_is = refl; spaces = refl; then = rw (or-false spaced) h }
 
 -- a production that doesn't depend on the white space before it
-pub any_space : (T : Stands) (a b : Bool) (end : ℕ) (rest text : List Placed) (found : Found) (errors : List ParseError)
+pub any_space : (T : DoctypeRelation) (a b : Bool) (end : ℕ) (rest text : List Placed) (found : Found) (errors : List ParseError)
     → AfterSpace (λ (s : Bool). T) a end rest text found errors → AfterSpace (λ (s : Bool). T) b end rest text found errors
 any_space T a b end rest text found errors h = record { space = h.space; after = h.after; text_is = h.text_is; spaces = h.spaces; then = h.then }
 
 -- backwards, with the errors of white space
-pub with_space : (T : Bool → Stands) (spaced : Bool) (end : ℕ) (rest : List Placed) (found : Found) (later : List ParseError) (p : Placed) (ps : List Placed)
+pub with_space : (T : Bool → DoctypeRelation) (spaced : Bool) (end : ℕ) (rest : List Placed) (found : Found) (later : List ParseError) (p : Placed) (ps : List Placed)
     → is_space p.ch ≡ true → AfterSpace T true end rest ps found later
     → AfterSpace T spaced end rest (p ∷ ps) found ((fault_errors None ++ null_errors (p ∷ [])) ++ later)
 with_space T spaced end rest found later p ps is h = record {

@@ -1,11 +1,11 @@
 -- The names of other crates and of specs/ that the proofs cite, in one place.
 pub use Rattle.hmarkup.specs.Comment.{closes_comment, closes_at_once, closes_bogus, errors_here, comment_errors_after, IsComment, closed_at_once, closed_with_bang, unclosed, IsBogus, closed_bogus, unclosed_bogus, is_ending, is_plain_in_bogus, is_only_data, ends_with_opening}
 pub use Rattle.hmarkup.specs.CommentWalk.{Progress, IsInComment, IsInBogus, HasReadOf, IsCommentSpan, backwards, is_whole, comment_begun, holds_nothing, closing_mark, IsHeldEnding, holds_dash, holds_dashes, holds_bang, IsOpening}
-pub use Rattle.hmarkup.specs.Doctype.{closed, Found, IsDoctype, force, IsEnd, cut_off, IsSkipped, AfterName, name_ends, name_skips, names_identifier, FollowsName, with_name, AfterSpace, AfterOpening, begins_name, nameless, unfinished, identified, IsInside, quoted, abrupt, AfterSystemIdentifier, system_ends, system_skips, AfterPublicIdentifier, public_ends, public_skips, second, Follows, AfterKeyword, identifier, missing, keyword_skips, keyword_cut_off, Stands, Skips, is_keyword, keyword, FollowsKeyword, IsDoctypeName, lengthened, no_space_after_keyword, no_identifier, no_quote, abrupt_identifier, IsIdentifier, FollowsSystem, nothing}
+pub use Rattle.hmarkup.specs.Doctype.{closed, Found, IsDoctype, force, IsEnd, cut_off, IsSkipped, AfterName, name_ends, name_skips, names_identifier, FollowsName, with_name, AfterSpace, AfterOpening, begins_name, nameless, unfinished, identified, IsInside, quoted, abrupt, AfterSystemIdentifier, system_ends, system_skips, AfterPublicIdentifier, public_ends, public_skips, second, Follows, AfterKeyword, identifier, missing, keyword_skips, keyword_cut_off, DoctypeRelation, Skips, is_keyword, keyword, FollowsKeyword, IsDoctypeName, lengthened, no_space_after_keyword, no_identifier, no_quote, abrupt_identifier, IsIdentifier, FollowsSystem, nothing}
 pub use Rattle.hmarkup.specs.DoctypeSteps.{next_letter, step, after_name, begins_keyword, first_letter, goes_on_with, in_keyword, letters_after, step_errors, found_by, before_name, in_name, fault_errors, end_fault, found_at_end, after_keyword, follows, in_quotes, after_public, after_system, in_skipped, ends_doctype, skips, with_run, identifier_begun, faulty, goes_to, refuses}
 pub use Rattle.hmarkup.specs.DoctypeWalk.{Reading, FitsState, HasReadDoctype, IsInKeyword, whole, fails, identifier_of, DoctypeGoesOn, is_data, letters_left}
 pub use Rattle.hmarkup.specs.Quirks.{lines, AreQuirkLines, QuirkLine, quirk_word, IsQuirkLine, IsNoQuirkLine, ReadsQuirks, bad_line, read_all, IsWordless, Lacks, HasParts}
-pub use Rattle.hmarkup.specs.Steps.{next_progress, next_ending, decided, with_char, closing, comment_step, greater_step, is_nested, with_data, next_opening}
+pub use Rattle.hmarkup.specs.Steps.{next_progress, next_ending, decided, with_char, closing, comment_step, greater_step, is_nested_comment, with_data, next_opening}
 pub use Rattle.hmarkup.specs.Walk.{BeginsMarkup, BeginsSpans, IsOpenMarkup, IsOneSpan, ran_out, sink_refused, goes_on, ended, run_ran_out, run_goes_on, ClosedBy, HasMarkupSpan, run_refused}
 pub use Rattle.hmarkup.specs.declared.comment.CommentKind.{CommentKind}
 pub use Rattle.hmarkup.specs.declared.comment.CommentKind.TheVariants.{Comment, Bogus}

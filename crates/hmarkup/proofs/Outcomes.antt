@@ -1,5 +1,5 @@
 -- What is read of a comment begins it, one more character or a run included.
-use Rattle.hmarkup.proofs.Names.{◌≡◌, ℕ, ◌≤◌, true, false, eqb, List, [], ◌∷◌, ◌++◌, length, sym, refl, ap, ◌∙◌, codes, arith, append_assoc, append-nil, map-append, false≢true, eqb-true, and_parts, or_left, or_right, ParseError, Placed, characters, spells, is_front, null_errors, CommentKind, Comment, Bogus, closes_comment, closes_at_once, closes_bogus, comment_errors_after, IsComment, closed_at_once, closed_with_bang, unclosed, IsBogus, closed_bogus, unclosed_bogus, BeginsSpans, IsOpenMarkup, IsOneSpan, Progress, IsInComment, IsInBogus, HasReadOf, IsCommentSpan, backwards, Bool, if◌then◌else◌, subst, transport, Option, Some, None, option_map, ErrorCode, NestedComment, error, Ending, Dashes, Bang, errors_here, fault_errors, is_whole, closing, comment_step, greater_step, is_nested, with_char, ◌+◌, encode_utf8, encode_utf8_all, list_all, IsUtf8, chars, nat_tests, all, placed, error_if, text_bytes, without_null, len_utf8, list_all-append, encode_ascii, encodes-chars, is_only_data, with_data}
+use Rattle.hmarkup.proofs.Names.{◌≡◌, ℕ, ◌≤◌, true, false, eqb, List, [], ◌∷◌, ◌++◌, length, sym, refl, ap, ◌∙◌, codes, arith, append_assoc, append-nil, map-append, false≢true, eqb-true, and_parts, or_left, or_right, ParseError, Placed, characters, spells, is_front, null_errors, CommentKind, Comment, Bogus, closes_comment, closes_at_once, closes_bogus, comment_errors_after, IsComment, closed_at_once, closed_with_bang, unclosed, IsBogus, closed_bogus, unclosed_bogus, BeginsSpans, IsOpenMarkup, IsOneSpan, Progress, IsInComment, IsInBogus, HasReadOf, IsCommentSpan, backwards, Bool, if◌then◌else◌, subst, transport, Option, Some, None, option_map, ErrorCode, NestedComment, error, Ending, Dashes, Bang, errors_here, fault_errors, is_whole, closing, comment_step, greater_step, is_nested_comment, with_char, ◌+◌, encode_utf8, encode_utf8_all, list_all, IsUtf8, chars, nat_tests, all, placed, error_if, text_bytes, without_null, len_utf8, list_all-append, encode_ascii, encodes-chars, is_only_data, with_data}
 use Rattle.hmarkup.specs.Comment.{closed}
 use Rattle.hmarkup.proofs.Marks.{not_past, spells-characters, first_is, null_errors-append}
 use Rattle.hmarkup.proofs.Fronts.{front_of}
@@ -127,7 +127,7 @@ errors_are true p e = rw e refl
 errors_are false p e = refl
 
 at_other : (kind : CommentKind) (w : Progress) (text : List Placed) (errs : List ParseError) (p : Placed) → eqb p.ch 62 ≡ false → HasReadOf kind w text errs
-    → Outcome kind w text errs p (if is_nested kind w then Some NestedComment else None, false)
+    → Outcome kind w text errs p (if is_nested_comment kind w then Some NestedComment else None, false)
 at_other Comment w text errs p e h = rw (← (errors_are (is_whole w.opening) p e)) (kept_other w text errs p h e)
 at_other Bogus w text errs p e h = bogus_kept w text errs p h e
 
@@ -135,7 +135,7 @@ pub outcome : (kind : CommentKind) (w : Progress) (text : List Placed) (errs : L
     → Outcome kind w text errs p (comment_step kind w p.ch)
 outcome kind w text errs p h = by (eqb p.ch 62) refl where
   by : (greater : Bool) → eqb p.ch 62 ≡ greater
-      → Outcome kind w text errs p (if greater then greater_step kind w else (if is_nested kind w then Some NestedComment else None, false))
+      → Outcome kind w text errs p (if greater then greater_step kind w else (if is_nested_comment kind w then Some NestedComment else None, false))
   by true e = rw (eqb-true p.ch 62 e) (at_greater kind w text errs p.at h)
   by false e = at_other kind w text errs p e h
 
@@ -189,15 +189,15 @@ next_data Bogus w c h = refl
 
 first_data : (kind : CommentKind) (w : Progress) (text : List Placed) (errs : List ParseError) (p : Placed) → is_only_data p.ch ≡ true
     → HasReadOf kind w text errs
-    → HasReadOf kind (with_data kind w (encode_utf8 (without_null p.ch))) (text ++ p ∷ []) (errs ++ error_if (is_nested kind w) NestedComment p.at)
-first_data kind w text errs p h k = transport (λ i. HasReadOf kind (next_data kind w p.ch h i) (text ++ p ∷ []) (errs ++ data_error (is_nested kind w) i))
+    → HasReadOf kind (with_data kind w (encode_utf8 (without_null p.ch))) (text ++ p ∷ []) (errs ++ error_if (is_nested_comment kind w) NestedComment p.at)
+first_data kind w text errs p h k = transport (λ i. HasReadOf kind (next_data kind w p.ch h i) (text ++ p ∷ []) (errs ++ data_error (is_nested_comment kind w) i))
     (rw (no_greater p.ch h) at (outcome kind w text errs p k)) where
       data_error : (nested : Bool) → char_errors (if nested then Some NestedComment else None) p ≡ error_if nested NestedComment p.at
       data_error true = simp (no_null p.ch h)
       data_error false = simp (no_null p.ch h)
 
 -- and those after it
-none_nested : (kind : CommentKind) (w : Progress) (run : List ℕ) → is_nested kind (with_data kind w run) ≡ false
+none_nested : (kind : CommentKind) (w : Progress) (run : List ℕ) → is_nested_comment kind (with_data kind w run) ≡ false
 none_nested Comment w run = refl
 none_nested Bogus w run = refl
 
@@ -207,25 +207,25 @@ with_two Bogus w xs ys = simp append_assoc
 
 run_data : (kind : CommentKind) (w : Progress) (text : List Placed) (errs : List ParseError) (p : Placed) (ps : List Placed) → all is_only_data (p ∷ ps) ≡ true
     → HasReadOf kind w text errs
-    → HasReadOf kind (with_data kind w (text_bytes (p ∷ ps))) (text ++ p ∷ ps) (errs ++ error_if (is_nested kind w) NestedComment p.at)
+    → HasReadOf kind (with_data kind w (text_bytes (p ∷ ps))) (text ++ p ∷ ps) (errs ++ error_if (is_nested_comment kind w) NestedComment p.at)
 run_data kind w text errs p [] h k = rw (append-nil (encode_utf8 (without_null p.ch))) (first_data kind w text errs p (and_parts _ _ h).0 k)
 run_data kind w text errs p (q ∷ ps) h k = let parts = and_parts _ _ h in let first : List ℕ = encode_utf8 (without_null p.ch) in
-    let so_far : List ParseError = errs ++ error_if (is_nested kind w) NestedComment p.at in
+    let so_far : List ParseError = errs ++ error_if (is_nested_comment kind w) NestedComment p.at in
     transport (λ i. HasReadOf kind (with_two kind w first (text_bytes (q ∷ ps)) i) (append_assoc text (p ∷ []) (q ∷ ps) i)
     (((λ j. so_far ++ error_if (none_nested kind w first j) NestedComment q.at) ∙ append-nil so_far) i))
     (run_data kind (with_data kind w first) (text ++ p ∷ []) so_far q ps parts.1 (first_data kind w text errs p parts.0 k))
 
 -- a run in UTF-8, whose first byte is at `at`
 pub run_read : (at : ℕ) (run : List ℕ) → IsUtf8 run → list_all is_only_data run ≡ true → (length run ≡ 0 → ⊥)
-    → (kind : CommentKind) (w : Progress) (text : List Placed) (errs : List ParseError) (nested : Bool) → nested ≡ is_nested w.kind w
+    → (kind : CommentKind) (w : Progress) (text : List Placed) (errs : List ParseError) (nested : Bool) → nested ≡ is_nested_comment w.kind w
     → HasReadOf kind w text errs → HasReadOf kind (with_data w.kind w run) (text ++ placed at (chars run)) (errs ++ error_if nested NestedComment at)
 run_read at run utf8 plain some kind w text errs nested is k = let same : w.kind ≡ kind = kind_of kind w text errs k in
     transport (λ i. HasReadOf kind (with_data (sym same i) w run) (text ++ placed at (chars run))
-    (errs ++ error_if (sym (is ∙ ap (λ (x : CommentKind). is_nested x w) same) i) NestedComment at)) (by (chars run) refl) where
+    (errs ++ error_if (sym (is ∙ ap (λ (x : CommentKind). is_nested_comment x w) same) i) NestedComment at)) (by (chars run) refl) where
       by : (cs : List ℕ) → chars run ≡ cs
-          → HasReadOf kind (with_data kind w run) (text ++ placed at (chars run)) (errs ++ error_if (is_nested kind w) NestedComment at)
+          → HasReadOf kind (with_data kind w run) (text ++ placed at (chars run)) (errs ++ error_if (is_nested_comment kind w) NestedComment at)
       by [] e = absurd (some (ap length (sym (encodes-chars run utf8) ∙ ap encode_utf8_all e)))
       by (c ∷ cs) e = let bytes : encode_utf8_all (c ∷ cs) ≡ run = ap encode_utf8_all (sym e) ∙ encodes-chars run utf8 in
           let h : all is_only_data (placed at (c ∷ cs)) ≡ true = run_characters at (c ∷ cs) (ap (list_all is_only_data) bytes ∙ plain) in
           transport (λ i. HasReadOf kind (with_data kind w ((run_bytes at (c ∷ cs) h ∙ bytes) i)) (text ++ placed at (sym e i))
-          (errs ++ error_if (is_nested kind w) NestedComment at)) (run_data kind w text errs (record { ch = c; at = at }) (placed (at + len_utf8 c) cs) h k)
+          (errs ++ error_if (is_nested_comment kind w) NestedComment at)) (run_data kind w text errs (record { ch = c; at = at }) (placed (at + len_utf8 c) cs) h k)

@@ -1,5 +1,5 @@
 -- The identifiers of a doctype and what is before them, and each phase: each character, and the end.
-use Rattle.hmarkup.proofs.Names.{Step, ◌≡◌, ℕ, Bool, true, false, not, ◌||◌, eqb, if◌then◌else◌, List, [], ◌∷◌, ◌++◌, sym, refl, ap, ◌∙◌, subst, codes, Some, None, append_assoc, is_some, false≢true, eqb-true, and_from, and_parts, ParseError, ErrorCode, EofInDoctype, MissingWhitespaceBetweenDoctypePublicAndSystemIdentifiers, Placed, characters, place, begins, all, is_space, is_greater, is_quote, error, null_errors, text_bytes, Identifier, Public, System, Found, Stands, force, identified, AfterSpace, IsInside, quoted, abrupt, AfterPublicIdentifier, public_ends, public_skips, second, Follows, AfterKeyword, identifier, missing, keyword_skips, keyword_cut_off, after_keyword, after_public, follows, in_quotes, step_errors, fault_errors, found_by, DoctypeGoesOn, identifier_of, no_space_after_keyword, no_identifier, no_quote, abrupt_identifier, IsIdentifier, FollowsSystem, faulty, length-append, length, ◌<◌, arith, Option, to_ascii_lowercase, InvalidCharacterSequenceAfterDoctypeName, spells_in_any_case, name_bytes, Letters, DoctypeState, IsEnd, cut_off, with_name, AfterSystemIdentifier, system_ends, system_skips, AfterName, name_ends, name_skips, names_identifier, FollowsName, AfterOpening, begins_name, nameless, unfinished, first_letter, begins_keyword, goes_on_with, step, end_fault, found_at_end, letters_after, FitsState, IsInKeyword, whole, fails, length-map}
+use Rattle.hmarkup.proofs.Names.{Step, ◌≡◌, ℕ, Bool, true, false, not, ◌||◌, eqb, if◌then◌else◌, List, [], ◌∷◌, ◌++◌, sym, refl, ap, ◌∙◌, subst, codes, Some, None, append_assoc, is_some, false≢true, eqb-true, and_from, and_parts, ParseError, ErrorCode, EofInDoctype, MissingWhitespaceBetweenDoctypePublicAndSystemIdentifiers, Placed, characters, place, begins, all, is_space, is_greater, is_quote, error, null_errors, text_bytes, Identifier, Public, System, Found, DoctypeRelation, force, identified, AfterSpace, IsInside, quoted, abrupt, AfterPublicIdentifier, public_ends, public_skips, second, Follows, AfterKeyword, identifier, missing, keyword_skips, keyword_cut_off, after_keyword, after_public, follows, in_quotes, step_errors, fault_errors, found_by, DoctypeGoesOn, identifier_of, no_space_after_keyword, no_identifier, no_quote, abrupt_identifier, IsIdentifier, FollowsSystem, faulty, length-append, length, ◌<◌, arith, Option, to_ascii_lowercase, InvalidCharacterSequenceAfterDoctypeName, spells_in_any_case, name_bytes, Letters, DoctypeState, IsEnd, cut_off, with_name, AfterSystemIdentifier, system_ends, system_skips, AfterName, name_ends, name_skips, names_identifier, FollowsName, AfterOpening, begins_name, nameless, unfinished, first_letter, begins_keyword, goes_on_with, step, end_fault, found_at_end, letters_after, FitsState, IsInKeyword, whole, fails, length-map}
 use Rattle.hmarkup.specs.Doctype.{unclosed}
 use Rattle.hmarkup.proofs.Marks.{null_errors-append, eqb_self}
 use Rattle.hmarkup.proofs.Characters.{quote_not_space, quote_not_greater, greater_not_space}
@@ -10,7 +10,7 @@ use Rattle.hmarkup.specs.declared.doctype_state.Keeps.TheVariants as keeps
 use Rattle.hmarkup.specs.declared.doctype_state.DoctypeState.TheVariants as phase
 
 -- a quote that begins an identifier
-module _ (which : Identifier) (code : ErrorCode) (After : Found → Stands) (known : Found) (spaced : Bool) (end : ℕ) (rest : List Placed) (found : Found) where
+module _ (which : Identifier) (code : ErrorCode) (After : Found → DoctypeRelation) (known : Found) (spaced : Bool) (end : ℕ) (rest : List Placed) (found : Found) where
   identifier_not_space : (text : List Placed) (errors : List ParseError) → IsIdentifier which code After known spaced end rest text found errors
       → begins is_space text ≡ false
   identifier_not_space text errors h = ap (begins is_space) h.text_is ∙ quote_not_space h.quote.ch h.is_mark

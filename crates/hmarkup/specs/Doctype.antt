@@ -27,8 +27,8 @@ abbrev pub nothing : Found
 nothing = record { name = None; public = None; system = None; forced = false }
 
 -- A relation between the input's end, the rest after a text, the text, the contents of the whole doctype, and the text's errors.
-abbrev pub Stands : Type 1
-Stands = ℕ → List Placed → List Placed → Found → List ParseError → Type 0
+abbrev pub DoctypeRelation : Type 1
+DoctypeRelation = ℕ → List Placed → List Placed → Found → List ParseError → Type 0
 
 -- bytes appended to those that are there
 abbrev pub lengthened : Option (List ℕ) → List ℕ → List ℕ
@@ -67,7 +67,7 @@ abrupt_identifier Public = AbruptDoctypePublicIdentifier
 abrupt_identifier System = AbruptDoctypeSystemIdentifier
 
 -- White space, and then `Then`, which is given whether there was any.
-pub record AfterSpace (Then : Bool → Stands) (spaced : Bool) (end : ℕ) (rest text : List Placed) (found : Found) (errors : List ParseError) : Type 0 where
+pub record AfterSpace (Then : Bool → DoctypeRelation) (spaced : Bool) (end : ℕ) (rest text : List Placed) (found : Found) (errors : List ParseError) : Type 0 where
   pub space : List Placed
   pub after : List Placed
   pub text_is : text ≡ space ++ after
@@ -101,7 +101,7 @@ pub record Skips (test : List Placed → Bool) (fault : ErrorCode) (known : Foun
 -- The inside of an identifier, after its opening quote. It ends at the same quote, or at `>` or the end of input, which force
 -- quirks mode (#doctype-public-identifier-(double-quoted)-state, #doctype-public-identifier-(single-quoted)-state,
 -- #doctype-system-identifier-(double-quoted)-state, #doctype-system-identifier-(single-quoted)-state).
-pub data IsInside (which : Identifier) (mark : ℕ) (After : Found → Stands) (known : Found) (end : ℕ) (rest text : List Placed) (found : Found)
+pub data IsInside (which : Identifier) (mark : ℕ) (After : Found → DoctypeRelation) (known : Found) (end : ℕ) (rest text : List Placed) (found : Found)
     (errors : List ParseError) : Type 0 where
   quoted : (inside close after : List Placed) (later : List ParseError) → text ≡ inside ++ (close ++ after)
       → all (λ c. not (c == mark || is_greater c)) inside ≡ true → characters close ≡ mark ∷ []
@@ -115,7 +115,7 @@ pub data IsInside (which : Identifier) (mark : ℕ) (After : Found → Stands) (
       → IsInside which mark After known end rest text found errors
 
 -- An identifier in quotes and what follows it, with an error if no white space precedes it. From its opening quote on it is present.
-pub record IsIdentifier (which : Identifier) (at_once : ErrorCode) (After : Found → Stands) (known : Found) (spaced : Bool) (end : ℕ)
+pub record IsIdentifier (which : Identifier) (at_once : ErrorCode) (After : Found → DoctypeRelation) (known : Found) (spaced : Bool) (end : ℕ)
     (rest text : List Placed) (found : Found) (errors : List ParseError) : Type 0 where
   pub quote : Placed
   pub more : List Placed
@@ -131,7 +131,7 @@ pub data AfterSystemIdentifier (known : Found) (end : ℕ) (rest text : List Pla
   system_skips : Skips (λ text. false) UnexpectedCharacterAfterDoctypeSystemIdentifier known end rest text found errors
       → AfterSystemIdentifier known end rest text found errors
 
-abbrev pub FollowsSystem : Found → Stands
+abbrev pub FollowsSystem : Found → DoctypeRelation
 FollowsSystem known = AfterSpace (λ spaced. AfterSystemIdentifier known) false
 
 -- what follows the public identifier and white space (#after-doctype-public-identifier-state,
@@ -143,10 +143,10 @@ pub data AfterPublicIdentifier (known : Found) (spaced : Bool) (end : ℕ) (rest
   second : IsIdentifier System MissingWhitespaceBetweenDoctypePublicAndSystemIdentifiers FollowsSystem known spaced end rest text found errors
       → AfterPublicIdentifier known spaced end rest text found errors
 
-abbrev pub FollowsPublic : Found → Stands
+abbrev pub FollowsPublic : Found → DoctypeRelation
 FollowsPublic known = AfterSpace (AfterPublicIdentifier known) false
 
-abbrev pub Follows : Identifier → Found → Stands
+abbrev pub Follows : Identifier → Found → DoctypeRelation
 Follows Public = FollowsPublic
 Follows System = FollowsSystem
 
@@ -162,7 +162,7 @@ pub data AfterKeyword (which : Identifier) (known : Found) (spaced : Bool) (end 
   keyword_cut_off : rest ≡ [] → text ≡ [] → found ≡ force known → errors ≡ error EofInDoctype end ∷ []
       → AfterKeyword which known spaced end rest text found errors
 
-abbrev pub FollowsKeyword : Identifier → Found → Stands
+abbrev pub FollowsKeyword : Identifier → Found → DoctypeRelation
 FollowsKeyword which known = AfterSpace (AfterKeyword which known) false
 
 abbrev pub is_keyword : List Placed → Bool
@@ -175,7 +175,7 @@ pub data AfterName (known : Found) (end : ℕ) (rest text : List Placed) (found 
   names_identifier : (which : Identifier) (word after : List Placed) → text ≡ word ++ after → lowered word ≡ keyword which
       → FollowsKeyword which known end rest after found errors → AfterName known end rest text found errors
 
-abbrev pub FollowsName : Found → Stands
+abbrev pub FollowsName : Found → DoctypeRelation
 FollowsName known = AfterSpace (λ spaced. AfterName known) false
 
 -- A name, up to white space, `>` or the end, and what follows it (#doctype-name-state).

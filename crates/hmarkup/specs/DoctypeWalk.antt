@@ -10,7 +10,7 @@ use Rattle.hmarkup.specs.declared.keyword.Identifier.TheVariants.{Public, System
 use Rattle.hmarkup.specs.declared.keyword.Letters.{Letters}
 use Rattle.hmarkup.specs.declared.doctype_state.DoctypeState.{DoctypeState}
 use Rattle.hmarkup.specs.declared.doctype_state.DoctypeState.TheVariants as phase
-use Rattle.hmarkup.specs.Doctype.{Found, keyword, Stands, force, AfterSpace, IsSkipped, IsInside, AfterSystemIdentifier, AfterPublicIdentifier, Follows}
+use Rattle.hmarkup.specs.Doctype.{Found, keyword, DoctypeRelation, force, AfterSpace, IsSkipped, IsInside, AfterSystemIdentifier, AfterPublicIdentifier, Follows}
 use Rattle.hmarkup.specs.Doctype.{AfterKeyword, FollowsKeyword, AfterName, IsDoctypeName, AfterOpening, IsDoctype}
 use Rattle.hmarkup.specs.Walk.{BeginsMarkup}
 
@@ -38,7 +38,7 @@ pub data IsInKeyword (letters : Letters) (first : ℕ) (known : Found) (end : �
       → errors ≡ error InvalidCharacterSequenceAfterDoctypeName first ∷ later → IsInKeyword letters first known end rest text found errors
 
 -- how a doctype goes on in each phase; `known` is what was found before
-abbrev pub DoctypeGoesOn : DoctypeState → Found → Stands
+abbrev pub DoctypeGoesOn : DoctypeState → Found → DoctypeRelation
 DoctypeGoesOn (phase.BeforeName spaced) known = AfterSpace (AfterOpening known) spaced
 DoctypeGoesOn phase.Name known = IsDoctypeName known
 DoctypeGoesOn phase.AfterName known = AfterSpace (λ spaced. AfterName known) false

@@ -88,9 +88,9 @@ with_data Comment walk run = next_run walk run
 with_data Bogus walk run = record walk { «data» = walk.data ++ run }
 
 -- whether the text ends with an inner `<!--`, which is an error at most characters
-abbrev pub is_nested : CommentKind → Progress → Bool
-is_nested Comment walk = is_whole walk.opening
-is_nested Bogus walk = false
+abbrev pub is_nested_comment : CommentKind → Progress → Bool
+is_nested_comment Comment walk = is_whole walk.opening
+is_nested_comment Bogus walk = false
 
 -- What a `>` is in a comment, which is empty or has data: its error, and whether it ends the comment.
 abbrev pub closing : Ending → Bool → Option ErrorCode × Bool
@@ -104,4 +104,4 @@ greater_step Comment walk = closing walk.ending (length walk.data == 0)
 greater_step Bogus walk = (None, true)
 
 abbrev pub comment_step : CommentKind → Progress → ℕ → Option ErrorCode × Bool
-comment_step kind walk c = if c == 62 then greater_step kind walk else (if is_nested kind walk then Some NestedComment else None, false)
+comment_step kind walk c = if c == 62 then greater_step kind walk else (if is_nested_comment kind walk then Some NestedComment else None, false)

@@ -5,7 +5,7 @@ pub use Rattle.hmarkup.specs.Doctype.{IsDoctype, force, lengthened, keyword, no_
 pub use Rattle.hmarkup.specs.DoctypeSteps.{goes_to, ends_doctype, faulty, refuses, skips, step, before_name, in_name, after_name, in_keyword, after_keyword, in_quotes, after_public, after_system, first_letter, next_letter, letters_after, end_fault, fault_errors, found_by, with_run}
 pub use Rattle.hmarkup.specs.DoctypeWalk.{Reading, HasReadDoctype, is_data, optional_text}
 pub use Rattle.hmarkup.specs.Quirks.{quirk_word, IsWordless, IsQuirkLine, IsNoQuirkLine, lines, HasParts, Lacks, same_as, begins_as, line_matches, list_matches, ReadsQuirks}
-pub use Rattle.hmarkup.specs.Steps.{with_char, with_data, is_nested, closing, comment_step, next_opening, next_ending, decided_text, held_ending_text}
+pub use Rattle.hmarkup.specs.Steps.{with_char, with_data, is_nested_comment, closing, comment_step, next_opening, next_ending, decided_text, held_ending_text}
 pub use Rattle.hmarkup.specs.Walk.{BeginsSpans, IsOpenMarkup, ClosedBy, HasMarkupSpan, IsOneSpan, TakesMarkup, TakesRun, EndsMarkup}
 pub use Rattle.hmarkup.specs.declared.comment.CommentKind.{CommentKind as Kind}
 pub use Rattle.hmarkup.specs.declared.comment.CommentKind.TheVariants.{Comment, Bogus}

@@ -6,7 +6,7 @@ ghost use Rattle.std.specs.List.{list_all};
 ghost use Rattle.std.specs.Str.{chars};
 ghost use Rattle.hmarkup.specs.Vocabulary.{Error, Placed, all, characters, error, placed, Kind, Comment, Bogus, is_only_data, is_plain_in_bogus, BeginsSpans};
 ghost use Rattle.hmarkup.specs.Vocabulary.{IsOpenMarkup, ClosedBy, HasMarkupSpan, IsOneSpan, TakesMarkup, TakesRun, EndsMarkup, Progress, comment_begun, HasReadOf, IsCommentSpan};
-ghost use Rattle.hmarkup.specs.Vocabulary.{closing_mark, comment_step, is_nested, with_char, with_data};
+ghost use Rattle.hmarkup.specs.Vocabulary.{closing_mark, comment_step, is_nested_comment, with_char, with_data};
 
 use crate::sink::ErrorSink;
 use crate::tail::{Ending, Opening};
@@ -112,15 +112,18 @@ impl CommentWalk {
         ensures { result ≡ comment_step self.now.kind self.now ch }
     {
         match self.kind {
-            _ if ch != '>' => (self.is_nested().then_some(ErrorCode::NestedComment), false),
+            _ if ch != '>' => (
+                self.is_nested_comment().then_some(ErrorCode::NestedComment),
+                false,
+            ),
             CommentKind::Comment => self.ending.closing(self.text.is_empty()),
             CommentKind::Bogus => (None, true),
         }
     }
 
     /// Whether the text ends with an inner `<!--`.
-    fn is_nested(&self) -> bool
-        ensures { result ≡ is_nested self.now.kind self.now }
+    fn is_nested_comment(&self) -> bool
+        ensures { result ≡ is_nested_comment self.now.kind self.now }
     {
         matches!(self.kind, CommentKind::Comment) && self.opening.is_whole()
     }
@@ -173,7 +176,7 @@ impl CommentWalk {
         if run.is_empty() {
             return Ok(());
         }
-        if self.is_nested() {
+        if self.is_nested_comment() {
             tell(ErrorCode::NestedComment, at, errors)?;
         }
         Ok(self.keep_run(run)?)

@@ -35,7 +35,8 @@ impl Identifier {
     }
 
     pub fn errors(self) -> IdentifierErrors
-        ensures { result ≡ record { not_spaced = no_space_after_keyword self; missing = no_identifier self; not_quoted = no_quote self; abrupt = abrupt_identifier self } }
+        ensures { result
+            ≡ record { not_spaced = no_space_after_keyword self; missing = no_identifier self; not_quoted = no_quote self; abrupt = abrupt_identifier self } }
     {
         match self {
             Identifier::Public => IdentifierErrors {

@@ -1,8 +1,8 @@
 -- Texts that are written by way of a buffer, from its beginning to its end.
-use Rattle.hserialize.proofs.Names.{◌≡◌, ℕ, List, ◌++◌, Option, Result, Ok, Err, refl, sym, ap, subst, ◌∙◌, IsErrAnd, Appends, Appends-trans, Refusal, Write, counted, WritesText, text_cut, text_written, written_so_far, AddsBytes, Fails, append_assoc, EndsOutput, IsBegun, Writer}
+use Rattle.hserialize.proofs.Names.{◌≡◌, ℕ, List, ◌++◌, Option, Result, Ok, Err, refl, sym, ap, subst, ◌∙◌, IsErrAnd, Appends, Appends-trans, Refusal, Write, counted, WritesText, text_cut, text_written, written_so_far, AddsBytes, Fails, append_assoc, EndsOutput, IsNewWriter, Writer}
 
 module _ {W : Type 0} (written : W → Option (List ℕ)) (failed : W → ℕ) (text : List ℕ) (old last : W) (begun : Writer W) (called : ℕ)
-    (begins : IsBegun called old begun) where
+    (begins : IsNewWriter called old begun) where
   -- what a buffer says of its target is so of the target that it leaves
   left : (P : W → W → Type 0) (now : W) → last ≡ now → P begun.target.now now → P old last
   left P now is h = subst (λ w. P w last) begins.same (subst (P begun.target.now) (sym is) h)

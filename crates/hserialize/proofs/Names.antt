@@ -16,7 +16,7 @@ pub use Rattle.hserialize.specs.Calls.{counted, counted_by_result}
 pub use Rattle.hserialize.specs.ContentTable.{row, takes_comments}
 pub use Rattle.hserialize.specs.DocumentTesting.{tree_in, trees_from, past_leaves, ArePassed, IsDoctypePassed, is_plain_doctype_at, is_leaf_at, is_text_alone, is_metadata_what, is_metadata_at, is_named_what, IsHeadAt}
 pub use Rattle.hserialize.specs.Lines.{tree_lines, attribute_put_in, between_quotes}
-pub use Rattle.hserialize.specs.Output.{Fails, AddsBytes, Taken, text_written, text_cut, EndsOutput, IsBegun, AppendsBeginning, no_buffer}
+pub use Rattle.hserialize.specs.Output.{Fails, AddsBytes, Taken, text_written, text_cut, EndsOutput, IsNewWriter, AppendsBeginning, no_buffer}
 pub use Rattle.hserialize.specs.Plain.{Inside, inside_element, in_context_of, inside_node, is_plain_node, are_content, begins_with_text, is_plain_text, is_a, content_within, begins_with, has_part, is_plain_name, begins_with_line_feed, drops_line_feed, is_plain}
 pub use Rattle.hserialize.specs.PlainDocument.{ends_document, is_leaf, leaves_then, comments_then, doctype_then, element_then, is_metadata, inside_head, are_metadata, are_in_html, body_on, html_on, is_plain_document}
 pub use Rattle.hserialize.specs.Printing.{depth_after, visit_lines, attribute_count}

@@ -42,7 +42,7 @@ written_so_far written failed out = record {
 }
 
 -- A writer that holds nothing yet, of the target that has this name and was so.
-pub record IsBegun {W : Type 0} (name : ℕ) (old : W) (out : Writer W) : Type 0 where
+pub record IsNewWriter {W : Type 0} (name : ℕ) (old : W) (out : Writer W) : Type 0 where
   pub name_is : out.target.ghost_name ≡ name
   pub same : out.target.now ≡ old
   pub none : out.held.now.items ≡ []

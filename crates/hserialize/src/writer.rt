@@ -1,7 +1,7 @@
 //! Bytes to a target by way of a buffer, part by part.
 
 ghost use Rattle.std.specs.Prelude.{◌≡◌, ◌+◌, ◌++◌, ◌≤◌, [], OnOk, flat_map, length, vec_capacity};
-ghost use Rattle.hserialize.specs.Output.{AddsBytes, EndsOutput, IsBegun, IsFlushed, PutsTo, written_so_far};
+ghost use Rattle.hserialize.specs.Output.{AddsBytes, EndsOutput, IsNewWriter, IsFlushed, PutsTo, written_so_far};
 
 use crate::target::{Target, write_all};
 use names::Refusal;
@@ -23,7 +23,7 @@ impl<'t, W: Target> Writer<'t, W> {
     /// Nothing is held yet.
     pub(crate) fn new(target: &'t mut W, held: &'t mut Vec<u8>) -> Writer<'t, W>
         requires { held.old.items ≡ [] }
-        ensures { IsBegun target.entry.ghost_name target.old result }
+        ensures { IsNewWriter target.entry.ghost_name target.old result }
     {
         Writer { target, held }
     }

@@ -22,7 +22,8 @@ impl<'t> ValueWalk<'t> {
     ) -> Result<bool, AllocError>
         requires plain { plain ≡ true → list_all is_no_reference run.now ≡ true }
         requires clean { list_all is_clean (chars run.now) ≡ true }
-        ensures { IfOk result (λ whole. whole ≡ true → IsQuietFront table.now run.now (length run.now) [] (if plain then run.now else string_bytes self.new.text)) }
+        ensures { IfOk result (λ whole. whole ≡ true → IsQuietFront table.now run.now (length run.now) []
+            (if plain then run.now else string_bytes self.new.text)) }
     {
         if plain {
             return Ok(true);

@@ -104,7 +104,8 @@ fn answer_with<'a, R: Surroundings, S: Source, W: Target>(
     ensures { (words : List Text) → SaysLine (task_of words) (option_value words) line.entry
         → FindsTable R.world surroundings.now (option_map (λ s. s.now) line.entry.entities) (Ok table.now)
         → FindsQuirks R.world surroundings.now (option_map (λ s. s.now) line.entry.quirks) (Ok quirks.now)
-        → AnswersWords R.world R.File.left R.File.failed S.left S.failed W.written W.failed surroundings.now words input.old input.new output.old output.new result }
+        → AnswersWords R.world R.File.left R.File.failed S.left S.failed W.written W.failed surroundings.now words
+        input.old input.new output.old output.new result }
 {
     let limits = limits(line.nodes, line.open)?;
     let name = line.command.context;

@@ -1,5 +1,5 @@
 -- What the characters after `<!` begin, and what they do not.
-use Rattle.htoken.proofs.Names.{◌≡◌, ◌≤◌, ◌<◌, ℕ, zero, suc, ◌+◌, ◌&&◌, get_or, take, Bool, true, false, not, ◌||◌, eqb, List, [], ◌∷◌, ◌++◌, map, length, sym, refl, ap, ◌∙◌, arith, codes, to_ascii_lowercase, list_all, Placed, characters, lowered, all, place, spells_in_any_case, nat_tests, is_plain_in_bogus, and_parts, is_declaration, take-suc, spells, is_cdata, OpensNothing, OpensAs, read_as, spells_as, all-one}
+use Rattle.htoken.proofs.Names.{◌≡◌, ◌≤◌, ◌<◌, ℕ, zero, suc, ◌+◌, ◌&&◌, get_or, take, Bool, true, false, not, ◌||◌, eqb, List, [], ◌∷◌, ◌++◌, map, length, sym, refl, ap, ◌∙◌, arith, codes, to_ascii_lowercase, list_all, Placed, characters, lowered, all, place, spells_in_any_case, nat_tests, is_plain_in_bogus, and_parts, is_declaration, take-suc, spells, is_cdata, OpensNothing, OpensAs, folded_as, spells_as, all-one}
 use Rattle.htoken.specs.declared.markup_declaration_open.Opens.TheVariants as opens
 
 -- A WORD at the front of a text, as each of its characters is read
@@ -19,7 +19,7 @@ in_any_case [] text = refl
 in_any_case (c ∷ cs) [] = refl
 in_any_case (c ∷ cs) (p ∷ ps) = ap (λ (b : Bool). eqb (to_ascii_lowercase p.ch) c && b) (in_any_case cs ps)
 
-in_case : (any_case : Bool) (cs : List ℕ) (text : List Placed) → spells_as any_case cs text ≡ spelled (read_as any_case) cs text
+in_case : (any_case : Bool) (cs : List ℕ) (text : List Placed) → spells_as any_case cs text ≡ spelled (folded_as any_case) cs text
 in_case true = in_any_case
 in_case false = as_it_is
 
@@ -126,7 +126,7 @@ place_first end [] p more = refl
 place_first end (x ∷ xs) p more = refl
 
 pub too_short : (any_case : Bool) (word : List ℕ) (text : List Placed) → length text < length word → spells_as any_case word text ≡ false
-too_short any_case word text l = in_case any_case word text ∙ short (read_as any_case) word text l
+too_short any_case word text l = in_case any_case word text ∙ short (folded_as any_case) word text l
 
 pub plain_take : (ps : List Placed) (i : ℕ) (d : Placed) → i < length ps → is_plain_in_bogus (get_or ps i d).ch ≡ true
     → all is_plain_in_bogus (take i ps) ≡ true → all is_plain_in_bogus (take (i + 1) ps) ≡ true

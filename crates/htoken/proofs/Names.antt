@@ -50,7 +50,7 @@ pub use Rattle.htoken.specs.Front.{all_at, bare_errors, EndsFront, first_placed,
 pub use Rattle.htoken.specs.Giving.{items_of, known_errors, piece_events, read_events, token_items, raises}
 pub use Rattle.htoken.specs.Handing.{HandsEvents}
 pub use Rattle.htoken.specs.HeldFrom.{HoldsFrom, from_of, IsCutAt}
-pub use Rattle.htoken.specs.MarkupDeclarationOpen.{OpensNothing, OpensAs, read_as, spells_as}
+pub use Rattle.htoken.specs.MarkupDeclarationOpen.{OpensNothing, OpensAs, folded_as, spells_as}
 pub use Rattle.htoken.specs.Raw.{is_script, end_errors, is_raw, may_end, is_raw_end, name_ends, level, ends_by, is_end_tag_of}
 pub use Rattle.htoken.specs.Run.{run_tokens, run_events, replacement_run, IsTextWithReferences, is_not_null, StartsAt, TakesTextWithReferences}
 pub use Rattle.htoken.specs.Script.{FollowsAll, level_number, HasFront, level_after, next_level, byte_of, last_bytes}

@@ -10,7 +10,7 @@ pub use Rattle.htext.specs.Run.{IsCut, is_clean, is_text_byte}
 pub use Rattle.htext.specs.declared.decoder.TheConstants.{MAX_INPUT}
 pub use Rattle.htoken.specs.Calls.{FeedsRun, FeedsText, TakesNext, TakesNextNamed}
 pub use Rattle.htoken.specs.Data.{is_no_markup}
-pub use Rattle.htoken.specs.MarkupDeclarationOpen.{OpensAs, read_as, spells_as}
+pub use Rattle.htoken.specs.MarkupDeclarationOpen.{OpensAs, folded_as, spells_as}
 pub use Rattle.htoken.specs.Front.{AddsReferences, EndsFront, GivesTextWithReferences, IsBare, IsGathered, IsWhole, ShowsAmpersand, TakesOn, TellsText, bare_errors, first_placed}
 pub use Rattle.htoken.specs.Giving.{items_of, known_errors, piece_events, raises, read_events}
 pub use Rattle.htoken.specs.Handing.{HandsEvents}

@@ -1,7 +1,7 @@
 //! What `<!` begins: a comment, a doctype, or what is read as a comment (HTML Standard, `#markup-declaration-open-state`).
 
 ghost use Rattle.std.specs.Prelude.{◌≡◌, ◌==◌, true};
-ghost use Rattle.htoken.specs.Vocabulary.{all, is_plain_in_bogus, OpensAs, read_as, spells_as};
+ghost use Rattle.htoken.specs.Vocabulary.{all, is_plain_in_bogus, OpensAs, folded_as, spells_as};
 
 use names::Placed;
 
@@ -25,7 +25,7 @@ const ENOUGH: usize = 7;
 
 /// Whether a character is this byte of a word, which is in lower case if the character may be in any case.
 pub(crate) fn is_read_as(ch: char, byte: u8, any_case: bool) -> bool
-    ensures { result ≡ (read_as any_case ch == byte) }
+    ensures { result ≡ (folded_as any_case ch == byte) }
 {
     if any_case {
         return u32::from(ch.to_ascii_lowercase()) == u32::from(byte);

@@ -24,5 +24,5 @@ abbrev pub is_unescaped : ℕ → Bool
 is_unescaped b = nat_le 32 b && not (b == 34 || b == 92)
 
 -- these bytes were added at the end of a text
-abbrev pub Adds : {A : Type 0} → String A → String A → List ℕ → Type 0
-Adds old new bytes = string_bytes new ≡ string_bytes old ++ bytes
+abbrev pub AddsToText : {A : Type 0} → String A → String A → List ℕ → Type 0
+AddsToText old new bytes = string_bytes new ≡ string_bytes old ++ bytes

@@ -3,7 +3,7 @@
 ghost use Rattle.std.specs.Prelude.{◌≡◌, ◌⊎◌, ◌++◌, ◌<◌, ℕ, [], codes, decimal, encode_utf8, if◌then◌else◌, map, OnOk};
 ghost use Rattle.std.specs.List.{flat_map, list_all};
 ghost use Rattle.hmarkup.specs.DoctypeWalk.{optional_text as text_if_any};
-ghost use Rattle.hwrite.specs.Quoted.{Adds, is_unescaped};
+ghost use Rattle.hwrite.specs.Quoted.{AddsToText, is_unescaped};
 ghost use Rattle.hwrite.specs.Vocabulary.{doctype_token, draft_attribute, attribute_words, escaped_byte, quote_escaped, quoted, quoted_or_none, line_of, line_text, draft_table, text_of, tok_of};
 
 use hmarkup::Doctype;
@@ -14,7 +14,7 @@ use std::alloc::AllocError;
 
 /// Writes the place at which a line begins, and the words after it.
 pub fn begin_line(text: &mut String, at: u64, words: &str) -> Result<(), AllocError>
-    ensures { OnOk result (Adds text.old text.new (decimal at ++ codes " " ++ words.now)) }
+    ensures { OnOk result (AddsToText text.old text.new (decimal at ++ codes " " ++ words.now)) }
 {
     text.push_str(Buffer::new().format(at))?;
     text.push(' ')?;
@@ -22,7 +22,7 @@ pub fn begin_line(text: &mut String, at: u64, words: &str) -> Result<(), AllocEr
 }
 
 fn push_optional(text: &mut String, source: &Option<String>) -> Result<(), AllocError>
-    ensures { OnOk result (Adds text.old text.new (quoted_or_none (text_if_any source.now))) }
+    ensures { OnOk result (AddsToText text.old text.new (quoted_or_none (text_if_any source.now))) }
 {
     match source {
         Some(source) => push_quoted(text, source),
@@ -32,7 +32,7 @@ fn push_optional(text: &mut String, source: &Option<String>) -> Result<(), Alloc
 
 /// Ends a line, with these words if they are to be there.
 fn end_line(text: &mut String, words: &str, has_words: bool) -> Result<(), AllocError>
-    ensures { OnOk result (Adds text.old text.new ((if has_words then words.now else []) ++ codes "\n")) }
+    ensures { OnOk result (AddsToText text.old text.new ((if has_words then words.now else []) ++ codes "\n")) }
 {
     if has_words {
         text.push_str(words)?;
@@ -41,7 +41,7 @@ fn end_line(text: &mut String, words: &str, has_words: bool) -> Result<(), Alloc
 }
 
 fn push_doctype(text: &mut String, doctype: &Doctype, at: u64) -> Result<(), AllocError>
-    ensures { OnOk result (Adds text.old text.new (line_text (line_of (doctype_token doctype.now at)))) }
+    ensures { OnOk result (AddsToText text.old text.new (line_text (line_of (doctype_token doctype.now at)))) }
 {
     begin_line(text, at, "doctype ")?;
     push_optional(text, &doctype.name)?;
@@ -63,7 +63,7 @@ fn push_attributes(
     attrs: &[Attr],
     names: Option<&Names>,
 ) -> Result<(), AllocError>
-    ensures { OnOk result (Adds text.old text.new (flat_map attribute_words (map (draft_attribute (draft_table names.entry)) attrs.now))) }
+    ensures { OnOk result (AddsToText text.old text.new (flat_map attribute_words (map (draft_attribute (draft_table names.entry)) attrs.now))) }
 {
     for attr in attrs {
         text.push(' ')?;
@@ -75,7 +75,7 @@ fn push_attributes(
 }
 
 fn push_quoted_line(text: &mut String, at: u64, words: &str, source: &str) -> Result<(), AllocError>
-    ensures { OnOk result (Adds text.old text.new (decimal at ++ codes " " ++ words.now ++ quoted source.now ++ codes "\n")) }
+    ensures { OnOk result (AddsToText text.old text.new (decimal at ++ codes " " ++ words.now ++ quoted source.now ++ codes "\n")) }
 {
     begin_line(text, at, words)?;
     push_quoted(text, source)?;
@@ -85,7 +85,7 @@ fn push_quoted_line(text: &mut String, at: u64, words: &str, source: &str) -> Re
 /// Writes the line of a token that is no character, with the table of its names if it is a tag.
 pub fn push_line(text: &mut String, token: &Token, names: Option<&Names>) -> Result<(), AllocError>
     requires { (ch at : ℕ) → token.now ≡ Token.Char ch at → ⊥ }
-    ensures { OnOk result (Adds text.old text.new (line_text (line_of (tok_of (draft_table names.entry) token.now)))) }
+    ensures { OnOk result (AddsToText text.old text.new (line_text (line_of (tok_of (draft_table names.entry) token.now)))) }
 {
     match token {
         Token::Doctype { doctype, at } => push_doctype(text, doctype, *at),
@@ -111,7 +111,7 @@ pub fn push_line(text: &mut String, token: &Token, names: Option<&Names>) -> Res
 #[inline(never)]
 fn push_escape(text: &mut String, ch: char) -> Result<(), AllocError>
     requires { (ch < 32) ⊎ (ch ≡ 34) ⊎ (ch ≡ 92) }
-    ensures { OnOk result (Adds text.old text.new (escaped_byte ch)) }
+    ensures { OnOk result (AddsToText text.old text.new (escaped_byte ch)) }
 {
     match ch {
         '"' => text.push_str("\\\""),
@@ -124,7 +124,7 @@ fn push_escape(text: &mut String, ch: char) -> Result<(), AllocError>
 /// Writes a character as it is between quotes.
 #[inline]
 pub fn push_escaped(text: &mut String, ch: char) -> Result<(), AllocError>
-    ensures { OnOk result (Adds text.old text.new (quote_escaped (encode_utf8 ch))) }
+    ensures { OnOk result (AddsToText text.old text.new (quote_escaped (encode_utf8 ch))) }
 {
     if ch >= ' ' && ch != '"' && ch != '\\' {
         text.push(ch)
@@ -148,7 +148,7 @@ fn are_unescaped(bytes: &[u8]) -> bool
 /// Writes a text as it is between quotes: at once, where nothing in it is escaped.
 #[tactic(auto, using(std::proofs::lemmas::Grind::common_steps))]
 fn push_escaped_text(text: &mut String, source: &str) -> Result<(), AllocError>
-    ensures { OnOk result (Adds text.old text.new (quote_escaped source.now)) }
+    ensures { OnOk result (AddsToText text.old text.new (quote_escaped source.now)) }
 {
     if are_unescaped(source.as_bytes()) {
         return text.push_str(source);
@@ -160,7 +160,7 @@ fn push_escaped_text(text: &mut String, source: &str) -> Result<(), AllocError>
 }
 
 fn push_quoted(text: &mut String, source: &str) -> Result<(), AllocError>
-    ensures { OnOk result (Adds text.old text.new (quoted source.now)) }
+    ensures { OnOk result (AddsToText text.old text.new (quoted source.now)) }
 {
     text.push('"')?;
     push_escaped_text(text, source)?;
