@@ -116,29 +116,24 @@ module _ {N : Type 0} (n : Naming N) (tells : n.tag (n.known tag.Img) ≡ tag.Im
 
   renamed-kind : (t : Token N) (k : TokenKind) → kind_of n t ≡ k → is_start k ≡ true → kind_of n (renamed (n.known tag.Img) t) ≡ Start family.PhrasingVoid
   renamed-kind (start x attrs closing) k e i = rw tells refl
-  renamed-kind (character c) k e i = not-start (c == 0) (is_space c) (subst (λ (j : TokenKind). is_start j ≡ true) (sym e) i)
-    where
-      not-start : (u v : Bool) → is_start (cond u Nul (cond v Ws Char)) ≡ true → kind_of n (renamed (n.known tag.Img) (character c)) ≡ Start family.PhrasingVoid
-      not-start true v e = cc
-      not-start false true e = cc
-      not-start false false e = cc
+  renamed-kind (character c) k e i = not-start (c == 0) (is_space c) (subst (λ (j : TokenKind). is_start j ≡ true) (sym e) i) where
+    not-start : (u v : Bool) → is_start (cond u Nul (cond v Ws Char)) ≡ true → kind_of n (renamed (n.known tag.Img) (character c)) ≡ Start family.PhrasingVoid
+    not-start true v e = cc
+    not-start false true e = cc
+    not-start false false e = cc
   renamed-kind t k e i = let clash = subst (λ (j : TokenKind). is_start j ≡ true) (sym e) i in cc
 
-  renamed-lower : (k : TokenKind) (r : ℕ) (w : Known) (b : Bool) (x : Tag) (t : Token N) (s : State N) → may_fall k r w (again_as x) ≡ true → kind_of n t ≡ k → Holds is_texty is_texty w b s.control
-      → Lower r (renamed (n.known x) t) s
-  renamed-lower k r w b tag.Img t s e o h =
-      let parts = both (is_start k) (lower (Start family.PhrasingVoid) r w) e in
+  renamed-lower : (k : TokenKind) (r : ℕ) (w : Known) (b : Bool) (x : Tag) (t : Token N) (s : State N) → may_fall k r w (again_as x) ≡ true → kind_of n t ≡ k
+      → Holds is_texty is_texty w b s.control → Lower r (renamed (n.known x) t) s
+  renamed-lower k r w b tag.Img t s e o h = let parts = both (is_start k) (lower (Start family.PhrasingVoid) r w) e in
       (h.sound, rw (renamed-kind t k o parts.0) (lower-is (Start family.PhrasingVoid) r w s.control.mode parts.1 h.mode))
   renamed-lower k r w b x t s e o h = never e
 
   -- what every rule does
   pub rule-down : (at : ℕ) (t : Token N) (s : State N) → Sound s.control → FlowFalls (cap (kind_of n t) s.control.mode) (Rule n at t s)
-  rule-down at t s h =
-      let m = s.control.mode in
-      let k = kind_of n t in
-      let r = cap k m in
-      let p = rule_of m k in
-      comes-less (λ u. Holds is_texty is_texty (mode_after is_texty is_texty (At m) p) (leaves (is_texty m) p) u.control) (λ u. Sound u.control) (Lower r) (Lower r) (λ e. Unit {0}) (λ u d. d.sound) (λ u v a. a) (Rule n at t s)
+  rule-down at t s h = let m = s.control.mode in let k = kind_of n t in let r = cap k m in let p = rule_of m k in
+      comes-less (λ u. Holds is_texty is_texty (mode_after is_texty is_texty (At m) p) (leaves (is_texty m) p) u.control) (λ u. Sound u.control) (Lower r)
+      (Lower r) (λ e. Unit {0}) (λ u d. d.sound) (λ u v a. a) (Rule n at t s)
       (perform-keeps is_texty is_texty n (λ c st. ((reset-found n c st).1, (reset-found n c st).1)) (may_fall k r) (λ u. kind_of n u ≡ k) (Lower r)
-      (record { same = λ w b u v e o d. (d.sound, rw o (lower-is k r w v.control.mode e d.mode)); other = renamed-lower k r; flagged = λ u v a. a })
-      (At m) (is_texty m) p (in-each falls refl m k) at t refl s (record { mode = refl; saved = h; sound = h }))
+      (record { same = λ w b u v e o d. (d.sound, rw o (lower-is k r w v.control.mode e d.mode)); other = renamed-lower k r; flagged = λ u v a. a }) (At m)
+      (is_texty m) p (in-each falls refl m k) at t refl s (record { mode = refl; saved = h; sound = h }))

@@ -20,7 +20,8 @@ pub by_option : {A : Type 0} (o : Option A) (P : Option A → Type 0) → (o ≡
 by_option None P a b = a refl
 by_option (Some x) P a b = b x refl
 
-pub by_outcome : {S : Type 0} (o : Outcome S) (P : Outcome S → Type 0) → ((s : S) → o ≡ Goes s → P (Goes s)) → ((r : Refusal) → o ≡ site.Refused r → P (site.Refused r)) → P o
+pub by_outcome : {S : Type 0} (o : Outcome S) (P : Outcome S → Type 0) → ((s : S) → o ≡ Goes s → P (Goes s))
+    → ((r : Refusal) → o ≡ site.Refused r → P (site.Refused r)) → P o
 by_outcome (Goes s) P a b = a s refl
 by_outcome (site.Refused r) P a b = b r refl
 
@@ -34,11 +35,11 @@ passes f [] all = tt
 passes f (x ∷ xs) all = let parts = both (f x) (list_all f xs) all in (parts.0, passes f xs parts.1)
 
 abbrev families : List Family
-families = family.Html ∷ family.Head ∷ family.Body ∷ family.Br ∷ family.Base ∷ family.HeadVoid ∷ family.Title ∷ family.Noframes ∷ family.Style ∷
-    family.Script ∷ family.Noscript ∷ family.Block ∷ family.P ∷ family.Heading ∷ family.Pre ∷ family.Form ∷ family.Li ∷ family.Dd ∷
-    family.Plaintext ∷ family.Button ∷ family.A ∷ family.Formatting ∷ family.Nobr ∷ family.Object ∷ family.Table ∷ family.PhrasingVoid ∷ family.Input ∷
-    family.MediaVoid ∷ family.Hr ∷ family.Image ∷ family.Textarea ∷ family.Xmp ∷ family.Iframe ∷ family.Rb ∷ family.Rp ∷ family.Caption ∷
-    family.Colgroup ∷ family.Col ∷ family.TableSection ∷ family.Row ∷ family.Cell ∷ family.Template ∷ family.Other ∷ []
+families = family.Html ∷ family.Head ∷ family.Body ∷ family.Br ∷ family.Base ∷ family.HeadVoid ∷ family.Title ∷ family.Noframes ∷ family.Style ∷ family.Script
+    ∷ family.Noscript ∷ family.Block ∷ family.P ∷ family.Heading ∷ family.Pre ∷ family.Form ∷ family.Li ∷ family.Dd ∷ family.Plaintext ∷ family.Button
+    ∷ family.A ∷ family.Formatting ∷ family.Nobr ∷ family.Object ∷ family.Table ∷ family.PhrasingVoid ∷ family.Input ∷ family.MediaVoid ∷ family.Hr
+    ∷ family.Image ∷ family.Textarea ∷ family.Xmp ∷ family.Iframe ∷ family.Rb ∷ family.Rp ∷ family.Caption ∷ family.Colgroup ∷ family.Col ∷ family.TableSection
+    ∷ family.Row ∷ family.Cell ∷ family.Template ∷ family.Other ∷ []
 
 each-family : (f : Family → Bool) → Passes f families → (x : Family) → f x ≡ true
 each-family f all family.Html = all.0
@@ -51,29 +52,23 @@ abbrev all_kinds : (TokenKind → Bool) → Bool
 all_kinds f = list_all f singles && (list_all (λ x. f (Start x)) families && list_all (λ x. f (End x)) families)
 
 each-kind : (f : TokenKind → Bool) → all_kinds f ≡ true → (k : TokenKind) → f k ≡ true
-each-kind f all = go (passes f singles parts.0) (passes (λ x. f (Start x)) families tags.0) (passes (λ x. f (End x)) families tags.1)
-  where
-    parts : (list_all f singles ≡ true) × ((list_all (λ x. f (Start x)) families && list_all (λ x. f (End x)) families) ≡ true)
-    parts = both (list_all f singles) (list_all (λ x. f (Start x)) families && list_all (λ x. f (End x)) families) all
-
-    tags : (list_all (λ x. f (Start x)) families ≡ true) × (list_all (λ x. f (End x)) families ≡ true)
-    tags = both (list_all (λ x. f (Start x)) families) (list_all (λ x. f (End x)) families) parts.1
-
-    go : Passes f singles → Passes (λ x. f (Start x)) families → Passes (λ x. f (End x)) families → (k : TokenKind) → f k ≡ true
-    go one starts ends (Start x) = each-family (λ x. f (Start x)) starts x
-    go one starts ends (End x) = each-family (λ x. f (End x)) ends x
-    go one starts ends _ = assumption
+each-kind f all = let starts = list_all (λ x. f (Start x)) families in let ends = list_all (λ x. f (End x)) families in
+    let parts = both (list_all f singles) (starts && ends) all in let tags = both starts ends parts.1 in
+    go (passes f singles parts.0) (passes (λ x. f (Start x)) families tags.0) (passes (λ x. f (End x)) families tags.1) where
+      go : Passes f singles → Passes (λ x. f (Start x)) families → Passes (λ x. f (End x)) families → (k : TokenKind) → f k ≡ true
+      go one starts ends (Start x) = each-family (λ x. f (Start x)) starts x
+      go one starts ends (End x) = each-family (λ x. f (End x)) ends x
+      go one starts ends _ = assumption
 
 abbrev modes : List Mode
-modes = Initial ∷ BeforeHtml ∷ BeforeHead ∷ InHead ∷ InHeadNoscript ∷ AfterHead ∷ InBody ∷ Text ∷ InTable ∷ InTableText ∷ InCaption ∷ InColumnGroup ∷
-    InTableBody ∷ InRow ∷ InCell ∷ AfterBody ∷ AfterAfterBody ∷ []
+modes = Initial ∷ BeforeHtml ∷ BeforeHead ∷ InHead ∷ InHeadNoscript ∷ AfterHead ∷ InBody ∷ Text ∷ InTable ∷ InTableText ∷ InCaption ∷ InColumnGroup
+    ∷ InTableBody ∷ InRow ∷ InCell ∷ AfterBody ∷ AfterAfterBody ∷ []
 
 pub each-mode : (f : Mode → Bool) → list_all f modes ≡ true → (m : Mode) → f m ≡ true
-each-mode f all m = go (passes f modes all) m
-  where
-    go : Passes f modes → (m : Mode) → f m ≡ true
-    go h Initial = h.0
-    go h _ = assumption
+each-mode f all m = go (passes f modes all) m where
+  go : Passes f modes → (m : Mode) → f m ≡ true
+  go h Initial = h.0
+  go h _ = assumption
 
 abbrev of_each : (Mode → TokenKind → Bool) → Bool
 of_each f = list_all (λ m. all_kinds (f m)) modes

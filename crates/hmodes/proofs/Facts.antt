@@ -27,7 +27,8 @@ abbrev may_go : Known → Do → Bool
 may_go w p = is_plain is_early is_texty w
 
 abbrev pub is_late_rule : Mode → TokenKind → Bool
-is_late_rule m k = keeps is_early is_texty may_go (At m) (is_texty m) (rule_of m k) && is_plain is_early is_texty (mode_after is_early is_texty (At m) (rule_of m k))
+is_late_rule m k =
+    keeps is_early is_texty may_go (At m) (is_texty m) (rule_of m k) && is_plain is_early is_texty (mode_after is_early is_texty (At m) (rule_of m k))
 
 pub late-rule : (m : Mode) (k : TokenKind) → (is_led m || is_late_rule m k) ≡ true
 late-rule = in-each (λ m k. is_led m || is_late_rule m k) refl
@@ -66,9 +67,7 @@ module _ {N : Type 0} (n : Naming N) where
   found c (x ∷ (y ∷ up)) = or-found (open_mode (n.tag x.name)) (reset_mode n c (y ∷ up)) (open-found (n.tag x.name)) (found c (y ∷ up))
 
   pub reset-found : (c : Option N) (st : List (OpenNode N)) → (is_early (reset_mode n c st) ≡ false) × (is_texty (reset_mode n c st) ≡ false)
-  reset-found c st =
-      let m = reset_mode n c st in
-      let parts = both (not (is_early m)) (not (is_texty m)) (found c st) in
+  reset-found c st = let m = reset_mode n c st in let parts = both (not (is_early m)) (not (is_texty m)) (found c st) in
       (not-true (is_early m) parts.0, not-true (is_texty m) parts.1)
 
 module _ {N : Type 0} (n : Naming N) where
@@ -76,13 +75,11 @@ module _ {N : Type 0} (n : Naming N) where
   LateAgain t s = Late s.control
 
   -- what such a rule does from a late mode
-  pub perform-late : (m : Mode) (k : TokenKind) → is_late_rule m k ≡ true → (at : ℕ) (t : Token N) (s : State N) → s.control.mode ≡ m → (is_texty m ≡ true → is_early s.control.saved ≡ false)
-      → Comes (λ u. Late u.control) LateAgain (λ r. Unit {0}) (perform n at t (rule_of m k) s)
-  perform-late m k e at t s is saved =
-      let p = rule_of m k in
-      let w = mode_after is_early is_texty (At m) p in
+  pub perform-late : (m : Mode) (k : TokenKind) → is_late_rule m k ≡ true → (at : ℕ) (t : Token N) (s : State N) → s.control.mode ≡ m
+      → (is_texty m ≡ true → is_early s.control.saved ≡ false) → Comes (λ u. Late u.control) LateAgain (λ r. Unit {0}) (perform n at t (rule_of m k) s)
+  perform-late m k e at t s is saved = let p = rule_of m k in let w = mode_after is_early is_texty (At m) p in
       let parts = both (keeps is_early is_texty may_go (At m) (is_texty m) p) (is_plain is_early is_texty w) e in
-      comes-less (λ u. Holds is_early is_texty w (leaves (is_texty m) p) u.control) (λ u. Late u.control) LateAgain LateAgain (λ r. Unit {0}) (λ u. late w (leaves (is_texty m) p) u.control parts.1) (λ u v a. a) (perform n at t p s)
-      (perform-keeps is_early is_texty n (reset-found n) may_go (λ u. Unit {0}) LateAgain
-      (record { same = λ v b u x i _. late v b x.control i; other = λ v b y u x i _. late v b x.control i; flagged = λ u x a. a })
+      comes-less (λ u. Holds is_early is_texty w (leaves (is_texty m) p) u.control) (λ u. Late u.control) LateAgain LateAgain (λ r. Unit {0})
+      (λ u. late w (leaves (is_texty m) p) u.control parts.1) (λ u v a. a) (perform n at t p s) (perform-keeps is_early is_texty n (reset-found n) may_go
+      (λ u. Unit {0}) LateAgain (record { same = λ v b u x i _. late v b x.control i; other = λ v b y u x i _. late v b x.control i; flagged = λ u x a. a })
       (At m) (is_texty m) p parts.0 at t tt s (record { mode = is; saved = saved; sound = λ i. saved (subst (λ (v : Mode). is_texty v ≡ true) is i) }))

@@ -10,46 +10,53 @@ pub record GoesBy (at : ℕ) (t : Token ℕ) (s : State ℕ) (t' : Token ℕ) (s
   pub orderly : Orderly numbers s'
   pub chain : (o : Outcome (State ℕ)) → Chain numbers at t' s' o → Chain numbers at t s o
 
-pub goes-from : (at : ℕ) (t : Token ℕ) (s : State ℕ) → HasBegun s → GoesBy at t s t s
-goes-from at t s h =
-    let o = orderly-begins numbers h.0 (reached-orderly numbers numbers-all h.0 h.1) in
-    record { orderly = subst (Orderly numbers) (sym h.2) o; chain = λ o c. c }
+module _ (at : ℕ) (t : Token ℕ) (s : State ℕ) where
+  pub goes-from : HasBegun s → GoesBy at t s t s
+  goes-from h = let o = orderly-begins numbers h.0 (reached-orderly numbers numbers-all h.0 h.1) in
+      record { orderly = subst (Orderly numbers) (sym h.2) o; chain = λ o c. c }
 
--- the same after a first rule
+  pub chain-again : (u : Token ℕ) (v : State ℕ) (r : Result (Unit {0}) Refusal) (new : State ℕ) → Rule numbers at t s ≡ Again u v → ChainGives at u v r new
+      → ChainGives at t s r new
+  chain-again u v (Ok x) new rule c = goes_again rule c
+  chain-again u v (Err e) new rule (inl m) = inl m
+  chain-again u v (Err e) new rule (inr c) = inr (goes_again rule c)
+
+  module _ (t' : Token ℕ) (s' : State ℕ) where
+    pub goes-on : (u : Token ℕ) (v : State ℕ) → GoesBy at t s t' s' → Rule numbers at t' s' ≡ Again u v → GoesBy at t s u v
+    goes-on u v h rule =
+        record { orderly = again-orderly numbers numbers-all at t' u s' v h.orderly rule; chain = λ o c. h.chain o (goes_again rule c) }
+
+    pub goes-lower : (u : Token ℕ) (v : State ℕ) → GoesBy at t s t' s' → Rule numbers at t' s' ≡ Again u v → left numbers at u v < left numbers at t' s'
+    goes-lower u v h rule = rule-falls numbers numbers-all.img at t' u s' v h.orderly.sound rule
+
+    pub goes-out : (v : State ℕ) (r : Result (Unit {0}) Refusal) (new : State ℕ) → GoesBy at t s t' s' → Rule numbers at t' s' ≡ Done v
+        → Gives r new (Goes (finished at t' v)) → ChainGives at t s r new
+    goes-out v (Ok x) new h rule g = h.chain (Goes new) (subst (Chain numbers at t' s') g (ends rule))
+    goes-out v (Err e) new h rule (inl m) = inl m
+    goes-out v (Err e) new h rule (inr m) = cc
+
+    pub goes-wrong : (e : Refusal) → GoesBy at t s t' s' → (e ≡ Memory) ⊎ (Rule numbers at t' s' ≡ Refused e)
+        → (e ≡ Memory) ⊎ Chain numbers at t s (site.Refused e)
+    goes-wrong e h (inl m) = inl m
+    goes-wrong e h (inr rule) = inr (h.chain (site.Refused e) (refuses rule))
+
+  -- a token from its beginning
+  pub step-of : (r : Result (Unit {0}) Refusal) (new : State ℕ) → is_dropped t s ≡ false → ChainGives at t (step_begun s) r new → StepGives at t s r new
+  step-of (Ok x) new e c = goes e c
+  step-of (Err x) new e (inl m) = inl m
+  step-of (Err x) new e (inr c) = inr (goes e c)
+
+  -- what a call hands on that was refused
+  pub wrong-chain : (r : Result (Unit {0}) Refusal) (d : Refusal) (new : State ℕ) → IsErrAnd r (λ e. e ≡ d)
+      → (d ≡ Memory) ⊎ Chain numbers at t s (site.Refused d) → ChainGives at t s r new
+  wrong-chain (Ok c) d new h k = absurd h
+  wrong-chain (Err e) d new h k = subst (λ (y : Refusal). (y ≡ Memory) ⊎ Chain numbers at t s (site.Refused y)) (sym h) k
+
+-- the rules after a first one
 pub goes-from-again : (at : ℕ) (t : Token ℕ) (s : State ℕ) → IsReprocessed at t s → GoesBy at t s t s
-goes-from-again at t s (before, old, h, rule) = record { orderly = again-orderly numbers numbers-all at before t old s (goes-from at before old h).orderly rule; chain = λ o c. c }
-
-pub chain-again : (at : ℕ) (t : Token ℕ) (s : State ℕ) (u : Token ℕ) (v : State ℕ) (r : Result (Unit {0}) Refusal) (new : State ℕ) → Rule numbers at t s ≡ Again u v → ChainGives at u v r new → ChainGives at t s r new
-chain-again at t s u v (Ok x) new rule c = goes_again rule c
-chain-again at t s u v (Err e) new rule (inl m) = inl m
-chain-again at t s u v (Err e) new rule (inr c) = inr (goes_again rule c)
-
-pub goes-on : (at : ℕ) (t : Token ℕ) (s : State ℕ) (t' : Token ℕ) (s' : State ℕ) (u : Token ℕ) (v : State ℕ) → GoesBy at t s t' s' → Rule numbers at t' s' ≡ Again u v → GoesBy at t s u v
-goes-on at t s t' s' u v h rule = record { orderly = again-orderly numbers numbers-all at t' u s' v h.orderly rule; chain = λ o c. h.chain o (goes_again rule c) }
-
-pub goes-lower : (at : ℕ) (t : Token ℕ) (s : State ℕ) (t' : Token ℕ) (s' : State ℕ) (u : Token ℕ) (v : State ℕ) → GoesBy at t s t' s' → Rule numbers at t' s' ≡ Again u v → left numbers at u v < left numbers at t' s'
-goes-lower at t s t' s' u v h rule = rule-falls numbers numbers-all.img at t' u s' v h.orderly.sound rule
-
-pub goes-out : (at : ℕ) (t : Token ℕ) (s : State ℕ) (t' : Token ℕ) (s' v : State ℕ) (r : Result (Unit {0}) Refusal) (new : State ℕ) → GoesBy at t s t' s' → Rule numbers at t' s' ≡ Done v → Gives r new (Goes (finished at t' v)) → ChainGives at t s r new
-goes-out at t s t' s' v (Ok x) new h rule g = h.chain (Goes new) (subst (Chain numbers at t' s') g (ends rule))
-goes-out at t s t' s' v (Err e) new h rule (inl m) = inl m
-goes-out at t s t' s' v (Err e) new h rule (inr m) = cc
-
-pub goes-wrong : (at : ℕ) (t : Token ℕ) (s : State ℕ) (t' : Token ℕ) (s' : State ℕ) (e : Refusal) → GoesBy at t s t' s' → (e ≡ Memory) ⊎ (Rule numbers at t' s' ≡ Refused e) → (e ≡ Memory) ⊎ Chain numbers at t s (site.Refused e)
-goes-wrong at t s t' s' e h (inl m) = inl m
-goes-wrong at t s t' s' e h (inr rule) = inr (h.chain (site.Refused e) (refuses rule))
-
--- a token from its beginning
-pub step-of : (at : ℕ) (t : Token ℕ) (s : State ℕ) (r : Result (Unit {0}) Refusal) (new : State ℕ) → is_dropped t s ≡ false → ChainGives at t (step_begun s) r new → StepGives at t s r new
-step-of at t s (Ok x) new e c = goes e c
-step-of at t s (Err x) new e (inl m) = inl m
-step-of at t s (Err x) new e (inr c) = inr (goes e c)
+goes-from-again at t s (before, old, h, rule) =
+    record { orderly = again-orderly numbers numbers-all at before t old s (goes-from at before old h).orderly rule; chain = λ o c. c }
 
 -- what a step leads to
 pub stands-after : (root at : ℕ) (t : Token ℕ) (s new : State ℕ) → BuilderStands root s → Step numbers at t s (Goes new) → BuilderStands root new
 stands-after root at t s new h one = record { reached = after h.reached one; made = step-holds (suc root) numbers at t s new h.made one }
-
--- what a call hands on that was refused
-pub wrong-chain : (at : ℕ) (t : Token ℕ) (s : State ℕ) (r : Result (Unit {0}) Refusal) (d : Refusal) (new : State ℕ) → IsErrAnd r (λ e. e ≡ d) → (d ≡ Memory) ⊎ Chain numbers at t s (site.Refused d) → ChainGives at t s r new
-wrong-chain at t s (Ok c) d new h k = absurd h
-wrong-chain at t s (Err e) d new h k = subst (λ (y : Refusal). (y ≡ Memory) ⊎ Chain numbers at t s (site.Refused y)) (sym h) k

@@ -1,7 +1,7 @@
 -- What a program does with the mode and the saved one: one induction over programs.
-use Rattle.hmodes.proofs.Vocabulary.{if◌then◌else◌, cond_both, ◌≡◌, ℕ, Bool, true, false, not, cond, [], refl, sym, ◌∙◌, ◌&&◌, ◌||◌, Option, List, OpenNode, Tag, Naming, Outcome, Goes, SiteOf, stack, Mode, Do, ◌▸◌, when, unless, choose, fostered, each_pending, again, again_as, to, save_mode, to_saved, reset, Token, character, Control, State, Flow, Done, renamed, reset_mode, answer_of, perform, with_foster, with_control, flow_of}
+use Rattle.hmodes.proofs.Vocabulary.{ap, if◌then◌else◌, cond_both, ◌≡◌, ℕ, Bool, true, false, not, cond, [], refl, sym, ◌∙◌, ◌&&◌, ◌||◌, Option, List, OpenNode, Tag, Naming, Outcome, Goes, SiteOf, stack, Mode, Do, ◌▸◌, when, unless, choose, fostered, each_pending, again, again_as, to, save_mode, to_saved, reset, Token, character, Control, State, Flow, Done, renamed, reset_mode, answer_of, perform, with_foster, with_control, flow_of}
 use Rattle.hadopt.specs.Site as site
-use Rattle.hmodes.proofs.Every.{never, both}
+use Rattle.hmodes.proofs.Every.{never, both, other}
 use Rattle.hmodes.proofs.Programs.{Comes, comes-less, comes-then, comes-map, comes-each}
 
 -- what is known of a mode: which one it is, or that it is not of a class
@@ -78,12 +78,11 @@ module _ (in_class hides_none : Mode → Bool) where
   is-plain Any m e h = cc
 
   met-known : (w v : Known) (m : Mode) → (is_plain w ≡ true → is_plain v ≡ true → in_class m ≡ false) → IsKnown (met w v) m
-  met-known w v m h = go (is_plain w) (is_plain v) h
-    where
-      go : (x y : Bool) → (x ≡ true → y ≡ true → in_class m ≡ false) → IsKnown (cond (x && y) Plain Any) m
-      go true true k = k refl refl
-      go true false k = tt
-      go false y k = tt
+  met-known w v m h = go (is_plain w) (is_plain v) h where
+    go : (x y : Bool) → (x ≡ true → y ≡ true → in_class m ≡ false) → IsKnown (cond (x && y) Plain Any) m
+    go true true k = k refl refl
+    go true false k = tt
+    go false y k = tt
 
   met-left : (w v : Known) (m : Mode) → IsKnown w m → IsKnown (met w v) m
   met-left w v m h = met-known w v m (λ e _. is-plain w m e h)
@@ -99,11 +98,13 @@ module _ (in_class hides_none : Mode → Bool) where
   less : (w v : Known) (b x : Bool) (c : Control) → (IsKnown v c.mode → IsKnown w c.mode) → (b ≡ true → x ≡ true) → Holds v x c → Holds w b c
   less w v b x c f g h = record { mode = f h.mode; saved = λ e. h.saved (g e); sound = h.sound }
 
-  module _ {N : Type 0} (n : Naming N) (found : (c : Option N) (st : List (OpenNode N)) → (in_class (reset_mode n c st) ≡ false) × (hides_none (reset_mode n c st) ≡ false)) where
+  module _ {N : Type 0} (n : Naming N)
+      (found : (c : Option N) (st : List (OpenNode N)) → (in_class (reset_mode n c st) ≡ false) × (hides_none (reset_mode n c st) ≡ false)) where
     -- what holds of a token, and of where it may go again
     pub record MayGo (may_go : Known → Do → Bool) (T : Token N → Type 0) (A : Token N → State N → Type 0) : Type 0 where
       pub same : (w : Known) (b : Bool) (t : Token N) (s : State N) → may_go w again ≡ true → T t → Holds w b s.control → A t s
-      pub other : (w : Known) (b : Bool) (x : Tag) (t : Token N) (s : State N) → may_go w (again_as x) ≡ true → T t → Holds w b s.control → A (renamed (n.known x) t) s
+      pub other : (w : Known) (b : Bool) (x : Tag) (t : Token N) (s : State N) → may_go w (again_as x) ≡ true → T t → Holds w b s.control
+          → A (renamed (n.known x) t) s
       pub flagged : (t : Token N) (s : State N) → A t s → A t (with_foster false s)
 
     pub none-goes : MayGo (λ v q. false) (λ t. Unit {0}) (λ t s. ⊥)
@@ -112,54 +113,51 @@ module _ (in_class hides_none : Mode → Bool) where
     abbrev pub FlowHolds : (Token N → State N → Type 0) → Known → Bool → Flow N → Type 0
     FlowHolds A w b = Comes (λ s. Holds w b s.control) A (λ r. Unit {0})
 
-    on-site : (A : Token N → State N → Type 0) (w : Known) (b : Bool) (s : State N) (o : Outcome (SiteOf N)) → Holds w b s.control → FlowHolds A w b (flow_of s o)
+    on-site : (A : Token N → State N → Type 0) (w : Known) (b : Bool) (s : State N) (o : Outcome (SiteOf N)) → Holds w b s.control
+        → FlowHolds A w b (flow_of s o)
     on-site A w b s (Goes x) h = h
     on-site A w b s (site.Refused r) h = tt
 
-    flow-less : (A : Token N → State N → Type 0) (w v : Known) (b : Bool) (p : Do) (f : Flow N) → ((m : Mode) → IsKnown v m → IsKnown w m) → FlowHolds A v (leaves b p) f → FlowHolds A w b f
-    flow-less A w v b p f g = comes-less (λ s. Holds v (leaves b p) s.control) (λ s. Holds w b s.control) A A (λ r. Unit {0}) (λ s. less w v b (leaves b p) s.control (g s.control.mode) (wider b p)) (λ t s a. a) f
+    flow-less : (A : Token N → State N → Type 0) (w v : Known) (b : Bool) (p : Do) (f : Flow N) → ((m : Mode) → IsKnown v m → IsKnown w m)
+        → FlowHolds A v (leaves b p) f → FlowHolds A w b f
+    flow-less A w v b p f g = comes-less (λ s. Holds v (leaves b p) s.control) (λ s. Holds w b s.control) A A (λ r. Unit {0})
+        (λ s. less w v b (leaves b p) s.control (g s.control.mode) (wider b p)) (λ t s a. a) f
 
-    pub perform-keeps : (may_go : Known → Do → Bool) (T : Token N → Type 0) (A : Token N → State N → Type 0) → MayGo may_go T A → (w : Known) (b : Bool) (p : Do) → keeps may_go w b p ≡ true
-        → (at : ℕ) (t : Token N) → T t → (s : State N) → Holds w b s.control → FlowHolds A (mode_after w p) (leaves b p) (perform n at t p s)
-    perform-keeps may_go T A goes w b (p ▸ q) e at t o s h =
-        let parts = both (keeps may_go w b p) (keeps may_go (mode_after w p) (leaves b p) q) e in
-        comes-then (λ u. Holds (mode_after w p) (leaves b p) u.control) (λ u. Holds (mode_after (mode_after w p) q) (leaves (leaves b p) q) u.control) A (λ r. Unit {0})
-        (perform n at t p s) (perform n at t q) (perform-keeps may_go T A goes w b p parts.0 at t o s h) (perform-keeps may_go T A goes (mode_after w p) (leaves b p) q parts.1 at t o)
-    perform-keeps may_go T A goes w b (when question p) e at t o s h =
-        let v = mode_after w p in
+    pub perform-keeps : (may_go : Known → Do → Bool) (T : Token N → Type 0) (A : Token N → State N → Type 0) → MayGo may_go T A
+        → (w : Known) (b : Bool) (p : Do) → keeps may_go w b p ≡ true → (at : ℕ) (t : Token N) → T t → (s : State N) → Holds w b s.control
+        → FlowHolds A (mode_after w p) (leaves b p) (perform n at t p s)
+    perform-keeps may_go T A goes w b (p ▸ q) e at t o s h = let parts = both (keeps may_go w b p) (keeps may_go (mode_after w p) (leaves b p) q) e in
+        comes-then (λ u. Holds (mode_after w p) (leaves b p) u.control) (λ u. Holds (mode_after (mode_after w p) q) (leaves (leaves b p) q) u.control) A
+        (λ r. Unit {0}) (perform n at t p s) (perform n at t q) (perform-keeps may_go T A goes w b p parts.0 at t o s h)
+        (perform-keeps may_go T A goes (mode_after w p) (leaves b p) q parts.1 at t o)
+    perform-keeps may_go T A goes w b (when question p) e at t o s h = let v = mode_after w p in
         cond_both (answer_of n t question s) (perform n at t p s) (Done s) (FlowHolds A (met w v) b)
-        (λ _. flow-less A (met w v) v b p (perform n at t p s) (met-right w v) (perform-keeps may_go T A goes w b p e at t o s h)) (λ _. less (met w v) w b b s.control (met-left w v s.control.mode) (λ i. i) h)
-    perform-keeps may_go T A goes w b (unless question p) e at t o s h =
-        let v = mode_after w p in
-        cond_both (answer_of n t question s) (Done s) (perform n at t p s) (FlowHolds A (met w v) b) (λ _. less (met w v) w b b s.control (met-left w v s.control.mode) (λ i. i) h)
         (λ _. flow-less A (met w v) v b p (perform n at t p s) (met-right w v) (perform-keeps may_go T A goes w b p e at t o s h))
-    perform-keeps may_go T A goes w b (choose question p q) e at t o s h =
-        let parts = both (keeps may_go w b p) (keeps may_go w b q) e in
+        (λ _. less (met w v) w b b s.control (met-left w v s.control.mode) (λ i. i) h)
+    perform-keeps may_go T A goes w b (unless question p) e at t o s h = let v = mode_after w p in
+        cond_both (answer_of n t question s) (Done s) (perform n at t p s) (FlowHolds A (met w v) b)
+        (λ _. less (met w v) w b b s.control (met-left w v s.control.mode) (λ i. i) h)
+        (λ _. flow-less A (met w v) v b p (perform n at t p s) (met-right w v) (perform-keeps may_go T A goes w b p e at t o s h))
+    perform-keeps may_go T A goes w b (choose question p q) e at t o s h = let parts = both (keeps may_go w b p) (keeps may_go w b q) e in
         let v = met (mode_after w p) (mode_after w q) in
-        cond_both (answer_of n t question s) (perform n at t p s) (perform n at t q s) (FlowHolds A v b)
-        (λ _. flow-less A v (mode_after w p) b p (perform n at t p s) (met-left (mode_after w p) (mode_after w q)) (perform-keeps may_go T A goes w b p parts.0 at t o s h))
-        (λ _. flow-less A v (mode_after w q) b q (perform n at t q s) (met-right (mode_after w p) (mode_after w q)) (perform-keeps may_go T A goes w b q parts.1 at t o s h))
-    perform-keeps may_go T A goes w b (fostered p) e at t o s h =
-        let v = mode_after w p in
+        cond_both (answer_of n t question s) (perform n at t p s) (perform n at t q s) (FlowHolds A v b) (λ _. flow-less A v (mode_after w p) b p
+        (perform n at t p s) (met-left (mode_after w p) (mode_after w q)) (perform-keeps may_go T A goes w b p parts.0 at t o s h)) (λ _. flow-less A v
+        (mode_after w q) b q (perform n at t q s) (met-right (mode_after w p) (mode_after w q)) (perform-keeps may_go T A goes w b q parts.1 at t o s h))
+    perform-keeps may_go T A goes w b (fostered p) e at t o s h = let v = mode_after w p in
         comes-map (λ u. Holds v b u.control) A (λ r. Unit {0}) (with_foster false) (λ u k. k) goes.flagged (perform n at t p (with_foster true s))
         (flow-less A v v b p (perform n at t p (with_foster true s)) (λ m k. k) (perform-keeps may_go T A goes w b p e at t o (with_foster true s) h))
-    perform-keeps may_go T A goes w b (each_pending p) e at t o s h =
-        comes-each (λ u. Holds Any b u.control) A (λ r. Unit {0}) (λ c. perform n c.at (character c.ch) p)
-        (λ c u k. comes-less (λ x. Holds (mode_after Any p) (leaves b p) x.control) (λ x. Holds Any b x.control) (λ y x. ⊥) A (λ r. Unit {0})
-        (λ x. less Any (mode_after Any p) b (leaves b p) x.control (λ _. tt) (wider b p)) (λ y x never_so. absurd never_so) (perform n c.at (character c.ch) p u)
-        (perform-keeps (λ v q. false) (λ y. Unit {0}) (λ y x. ⊥) none-goes Any b p e c.at (character c.ch) tt u k))
+    perform-keeps may_go T A goes w b (each_pending p) e at t o s h = comes-each (λ u. Holds Any b u.control) A (λ r. Unit {0})
+        (λ c. perform n c.at (character c.ch) p) (λ c u k. comes-less (λ x. Holds (mode_after Any p) (leaves b p) x.control) (λ x. Holds Any b x.control)
+        (λ y x. ⊥) A (λ r. Unit {0}) (λ x. less Any (mode_after Any p) b (leaves b p) x.control (λ _. tt) (wider b p)) (λ y x never_so. absurd never_so)
+        (perform n c.at (character c.ch) p u) (perform-keeps (λ v q. false) (λ y. Unit {0}) (λ y x. ⊥) none-goes Any b p e c.at (character c.ch) tt u k))
         s.control.pending (with_control (record s.control { pending = [] }) s) (record { mode = tt; saved = h.saved; sound = h.sound })
     perform-keeps may_go T A goes w b again e at t o s h = goes.same w b t s e o h
     perform-keeps may_go T A goes w b (again_as x) e at t o s h = goes.other w b x t s e o h
-    perform-keeps may_go T A goes w b (to m) e at t o s h = go (hides_none m) b e h.saved refl
-      where
-        go : (v x : Bool) → (not v || x) ≡ true → (x ≡ true → in_class s.control.saved ≡ false) → hides_none m ≡ v → Holds (At m) x (record s.control { mode = m })
-        go true true c k is = record { mode = refl; saved = k; sound = λ j. k refl }
-        go true false c k is = cc
-        go false x c k is = record { mode = refl; saved = k; sound = λ j. let clash = sym is ∙ j in cc }
-    perform-keeps may_go T A goes w b save_mode e at t o s h = let p = is-plain w s.control.mode e h.mode in record { mode = h.mode; saved = λ _. p; sound = λ _. p }
+    perform-keeps may_go T A goes w b (to m) e at t o s h =
+        record { mode = refl; saved = h.saved; sound = λ j. h.saved (other (not (hides_none m)) b e (ap not j)) }
+    perform-keeps may_go T A goes w b save_mode e at t o s h = let p = is-plain w s.control.mode e h.mode in
+        record { mode = h.mode; saved = λ _. p; sound = λ _. p }
     perform-keeps may_go T A goes w b to_saved e at t o s h = record { mode = h.saved e; saved = h.saved; sound = λ _. h.saved e }
-    perform-keeps may_go T A goes w b reset e at t o s h =
-        let r = found s.context (stack s.site) in
+    perform-keeps may_go T A goes w b reset e at t o s h = let r = found s.context (stack s.site) in
         record { mode = r.0; saved = h.saved; sound = λ i. let clash = sym r.1 ∙ i in cc }
     perform-keeps may_go T A goes w b p e at t o s h = first_of (assumption, search (on-site))

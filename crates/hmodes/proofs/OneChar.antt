@@ -18,10 +18,12 @@ module _ (b : Building) (free : b.refused ≡ None) (takes : takes_char b.state 
   abbrev after : State ℕ → Option Refusal → Building
   after t refused = record { state = t; root = b.root; tokenizer_errors = b.tokenizer_errors; refused = refused }
 
-  pub taken_by_rule : (answer : Result (Unit {0}) Refusal) (t : State ℕ) → StateGives answer t (perform numbers at (character c) (char_rule b.state.control.mode) (step_begun b.state))
+  pub taken_by_rule : (answer : Result (Unit {0}) Refusal) (t : State ℕ)
+      → StateGives answer t (perform numbers at (character c) (char_rule b.state.control.mode) (step_begun b.state))
       → TakesToken b (Alone (code.Char c at)) answer (after t (refused_by answer))
-  taken_by_rule (Ok u) t g =
-      takes-on at (character c) b (after t None) (Ok tt) free (record { step = goes (ap (λ (d : Bool). d && (c == 10)) parts.0) (ends (rule ∙ g)); tokenizer_errors = refl; root = refl; refused = refl })
-  taken_by_rule (Err r) t (inl m) = takes-on at (character c) b (after t (Some r)) (Err r) free (record { step = inl m; tokenizer_errors = refl; root = refl; refused = refl })
-  taken_by_rule (Err r) t (inr e) =
-      takes-on at (character c) b (after t (Some r)) (Err r) free (record { step = inr (goes (ap (λ (d : Bool). d && (c == 10)) parts.0) (refuses (rule ∙ e))); tokenizer_errors = refl; root = refl; refused = refl })
+  taken_by_rule (Ok u) t g = takes-on at (character c) b (after t None) (Ok tt) free
+      (record { step = goes (ap (λ (d : Bool). d && (c == 10)) parts.0) (ends (rule ∙ g)); tokenizer_errors = refl; root = refl; refused = refl })
+  taken_by_rule (Err r) t (inl m) =
+      takes-on at (character c) b (after t (Some r)) (Err r) free (record { step = inl m; tokenizer_errors = refl; root = refl; refused = refl })
+  taken_by_rule (Err r) t (inr e) = takes-on at (character c) b (after t (Some r)) (Err r) free
+      (record { step = inr (goes (ap (λ (d : Bool). d && (c == 10)) parts.0) (refuses (rule ∙ e))); tokenizer_errors = refl; root = refl; refused = refl })

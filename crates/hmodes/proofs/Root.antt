@@ -10,9 +10,8 @@ is_refused (Goes x) = false
 is_refused (Refused r) = true
 
 -- an element is inserted where one node more and one open element more may be there
-pub fits : (at name : ℕ) (attrs : List (Attribute ℕ)) (to : Place) (x : SiteOf ℕ) (e : Refusal) → nat_le x.nodes.limit x.nodes.made ≡ false → nat_le x.open_nodes.limit (length (stack x)) ≡ false
-    → inserted at name attrs to x ≡ Refused e → ⊥
-fits at name attrs to x e some_node some_open wrong =
-    let goes : is_refused (inserted at name attrs to x) ≡ false = rw (some_node, some_open) refl in
+pub fits : (at name : ℕ) (attrs : List (Attribute ℕ)) (to : Place) (x : SiteOf ℕ) (e : Refusal) → nat_le x.nodes.limit x.nodes.made ≡ false
+    → nat_le x.open_nodes.limit (length (stack x)) ≡ false → inserted at name attrs to x ≡ Refused e → ⊥
+fits at name attrs to x e some_node some_open wrong = let goes : is_refused (inserted at name attrs to x) ≡ false = rw (some_node, some_open) refl in
     let never : true ≡ false = sym (ap is_refused wrong) ∙ goes in
     absurd cc

@@ -3,8 +3,7 @@ use Rattle.hmodes.proofs.Root.{above, fits}
 use Rattle.hmodes.proofs.beginning.fragment_site.Goals as goal
 
 pub returns-in-Err : goal.returns-in-Err
-returns-in-Err c =
-    let is = c.in_ok-site.ensures.site in
+returns-in-Err c = let is = c.in_ok-site.ensures.site in
     elim c.in-Err.ensures.done [
       | inl m ↦ m
       | inr wrong ↦ absurd (fits _ _ _ _ c.in_ok-site.site _

@@ -1,4 +1,4 @@
-use Rattle.hadopt.proofs.Agreeing.{numbers-agree}
+use Rattle.hmodes.proofs.Vocabulary.{numbers-agree}
 use Rattle.hmodes.proofs.laws.each_table_agrees.Goals as goal
 
 pub returns : goal.returns

@@ -1,4 +1,4 @@
-use Rattle.hadopt.specs.Naming.{texts}
+use Rattle.hmodes.proofs.Vocabulary.{texts}
 use Rattle.hmodes.proofs.Between.{texts-all, reached-orderly}
 use Rattle.hmodes.proofs.Ends.{some-step}
 use Rattle.hmodes.proofs.Single.{step-one}

@@ -1,4 +1,4 @@
-use Rattle.hadopt.specs.Naming.{texts}
+use Rattle.hmodes.proofs.Vocabulary.{texts}
 use Rattle.hmodes.proofs.Between.{texts-all}
 use Rattle.hmodes.proofs.RawFollows.{raw-follows}
 use Rattle.hmodes.proofs.laws.raw_follows.Goals as goal

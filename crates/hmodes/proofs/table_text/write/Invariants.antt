@@ -1,6 +1,4 @@
-use Rattle.hmodes.proofs.Vocabulary.{◌≡◌, characters}
-use Rattle.std.proofs.Common.{take}
-use Rattle.std.specs.Prelude.{encode_utf8_all, string_bytes}
+use Rattle.hmodes.proofs.Vocabulary.{◌≡◌, characters, take, encode_utf8_all, string_bytes}
 use Rattle.hmodes.proofs.table_text.write.Given as goal
 
 abbrev pub invariant-loop-c : goal.invariant-loop-c

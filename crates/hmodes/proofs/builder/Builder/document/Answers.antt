@@ -4,7 +4,8 @@ use Rattle.hmodes.proofs.builder.Builder.document.Goals as goal
 
 pub invariant_of-result : goal.invariant_of-result
 invariant_of-result c = λ e.
-    let limits : ◌≡◌ {A = Limits} (record { nodes = c.nodes.result; depth = c.depth.result }) c.args.limits.tree = λ j. record { nodes = c.nodes.ensures.value j; depth = c.depth.ensures.value j } in
+    let limits : ◌≡◌ {A = Limits} (record { nodes = c.nodes.result; depth = c.depth.result }) c.args.limits.tree = λ j. record
+    { nodes = c.nodes.ensures.value j; depth = c.depth.ensures.value j } in
     let site = c.in_ok-site.ensures.site ∙ ap (λ (l : Limits). let s : State ℕ = document_begins c.args.quirks.now l in s.site) limits in
     let now : State ℕ = record { site = c.in_ok-site.site; control = c.control_in.result; context = None; quirks_list = c.args.quirks.now } in
     subst (λ (root : ℕ). BuilderStands root now) (sym c.document-root.ensures.number)

@@ -7,6 +7,5 @@ put_run-requires-clause-some c =
     bad_some c.args.at c.deref-in-Ok.result.now c.args.count (c.deref-in-Ok.ensures ∙ c.in-Ok.ensures.bytes ∙ ap (repeat c.args.count) bad_bytes)
 
 pub returns-in-Ok : goal.returns-in-Ok
-returns-in-Ok c =
-    c.put_run.ensures (replacement_run c.args.at c.args.count)
+returns-in-Ok c = c.put_run.ensures (replacement_run c.args.at c.args.count)
     (bad_with_references c.args.at c.deref-in-Ok.result.now c.args.count (c.deref-in-Ok.ensures ∙ c.in-Ok.ensures.bytes ∙ ap (repeat c.args.count) bad_bytes))

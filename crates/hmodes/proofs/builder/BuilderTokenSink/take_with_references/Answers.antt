@@ -1,4 +1,4 @@
-use Rattle.std.specs.Str.{chars}
+use Rattle.hmodes.proofs.Vocabulary.{chars}
 use Rattle.hmodes.proofs.TextRun.{some_not_null}
 use Rattle.hmodes.proofs.builder.BuilderTokenSink.take_with_references.Goals as goal
 

@@ -1,8 +1,7 @@
-use Rattle.hmodes.proofs.Vocabulary.{◌≡◌, get_or, refl, Family, Tag, family_of}
+use Rattle.hmodes.proofs.Vocabulary.{◌≡◌, get_or, refl, Family, Tag, family_of, FAMILIES}
 use denote.Enum.Declared as enum
 use Rattle.names.specs.contracts.tag.Tag as contract
 use Rattle.names.specs.declared.tag.Tag.TheVariants as tag
-use Rattle.hmodes.specs.declared.family.TheConstants.{FAMILIES}
 use Rattle.hmodes.proofs.family.Family.of.Goals as goal
 
 -- the family at the place of a tag among the tags

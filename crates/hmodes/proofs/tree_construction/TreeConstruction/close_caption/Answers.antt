@@ -1,4 +1,4 @@
-use Rattle.std.proofs.Common.{rules}
+use Rattle.hmodes.proofs.Vocabulary.{rules}
 use Rattle.hmodes.proofs.Flowing.{ends-as}
 use Rattle.hmodes.proofs.tree_construction.TreeConstruction.close_caption.Goals as goal
 
