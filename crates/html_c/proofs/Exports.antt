@@ -1,22 +1,7 @@
 -- What a call gives, from what was given and what came of the input.
-use Rattle.html_c.proofs.Names.{◌≡◌, ℕ, Bool, true, List, [], Option, None, Some, Ok, Err, map, ap, ◌∙◌, refl, subst, sym, if◌then◌else◌, Refusal, Memory, text_of, Forest, children_of, ParseOptions, Parsed, own_context, AllowsContext, context_of, prints_of, ComesToNone, none_for_memory, Tells, context_told, ComesToParse, GivesParse, Given}
-use Rattle.std.proofs.Common.{false}
-use Rattle.hparse.specs.Parsing.{TellsPlaces, places_in}
-use Rattle.hparse.specs.declared.origins.Origin.{Origin}
-use Rattle.hserialize.specs.declared.escaping.Escaping.{Escaping}
-use Rattle.hwrite.specs.Prints.{parsed_text}
-use Rattle.hwrite.specs.declared.command.Command.{Command}
-use Rattle.hwrite.specs.declared.command.Task.{Task}
+use Rattle.html_c.proofs.Names.{◌≡◌, ℕ, Bool, true, List, [], Option, None, Some, Ok, Err, map, ap, ◌∙◌, refl, subst, sym, if◌then◌else◌, Refusal, Memory, text_of, Forest, children_of, ParseOptions, Parsed, own_context, AllowsContext, context_of, prints_of, ComesToNone, none_for_memory, Tells, context_told, ComesToParse, GivesParse, Given, false, TellsPlaces, places_in, Origin, Escaping, parsed_text, Command, Task, children_are, parsed_printed, GivesText, GivesNone, case_given, comes_to_none, GivesNoRows, no_rows, prints, IsCommand, escaping_told, may_be_in, GivesErrors, GivesPage, GivesOrigins, GivesWanted, error_row, wants_told, origins_of, parsed_parts, origins_by, Wants, arith}
 use Rattle.hwrite.specs.declared.command.Task.TheVariants as task
-use Rattle.hwrite.proofs.Printed.{children_are}
-use Rattle.hwrite.proofs.Tasks.{parsed_printed}
-use Rattle.html_c.specs.Exports.{GivesText, GivesNone, case_given, comes_to_none, GivesNoRows, no_rows, prints}
-use Rattle.html_c.specs.Given.{IsCommand, escaping_told, may_be_in}
-use Rattle.html_c.specs.Page.{GivesErrors, GivesPage, GivesOrigins, GivesWanted, error_row, wants_told}
-use Rattle.html_c.specs.Rows.{origins_of}
-use Rattle.html_c.specs.Trees.{parsed_parts, origins_by}
 use Rattle.html_c.specs.declared.fault.CallFault.TheVariants as fault
-use Rattle.html_c.specs.declared.page.Wants.{Wants}
 use Rattle.html_c.proofs.Trees.{same_origins, some_rows}
 
 -- a command's task is of an input in a context that is allowed
@@ -26,7 +11,8 @@ allowed other is allows = subst AllowsContext (sym is) allows
 
 module _ {input : List ℕ} {given : Given} {opts : ParseOptions} (tells : Tells given opts) where
   module _ {number : ℕ} {command : Command} (is : IsCommand number given command) where
-    pub a_text : {text : List ℕ} → prints_of command.escaping command.task (own_context command.context) opts input (Ok text) → GivesText number input given text
+    pub a_text : {text : List ℕ} → prints_of command.escaping command.task (own_context command.context) opts input (Ok text)
+        → GivesText number input given text
     a_text {text} its = record {
       task = command.task;
       how = command.escaping;
@@ -38,22 +24,22 @@ module _ {input : List ℕ} {given : Given} {opts : ParseOptions} (tells : Tells
       text_is = subst (λ (c : Option (List ℕ)). prints_of command.escaping command.task c opts input (Ok text)) is.context its;
     }
 
-    pub no_text : {refusal : Refusal} → ComesToNone (prints_of command.escaping command.task (own_context command.context) opts) input refusal → GivesNone number input given (fault.Refused refusal)
-    no_text {refusal} why =
-        comes_to_none command.task command.escaping opts refusal is.task is.placed is.escaping tells
+    pub no_text : {refusal : Refusal} → ComesToNone (prints_of command.escaping command.task (own_context command.context) opts) input refusal
+        → GivesNone number input given (fault.Refused refusal)
+    no_text {refusal} why = comes_to_none command.task command.escaping opts refusal is.task is.placed is.escaping tells
         (subst (λ (c : Option (List ℕ)). ComesToNone (prints_of command.escaping command.task c opts) input refusal) is.context why) refl
 
   module _ {context : Option (List ℕ)} (is : context ≡ context_told given.context.now) where
     pub a_parse : {places : Bool} {parsed : Parsed} → opts.places ≡ places → ComesToParse opts context input (Ok parsed) → GivesParse input given places parsed
-    a_parse {parsed = parsed} asks its = record { opts = opts; tells = tells; asks = asks; answers = subst (λ (c : Option (List ℕ)). ComesToParse opts c input (Ok parsed)) is its }
+    a_parse {parsed = parsed} asks its = record
+        { opts = opts; tells = tells; asks = asks; answers = subst (λ (c : Option (List ℕ)). ComesToParse opts c input (Ok parsed)) is its }
 
     pub no_parse : {refusal : Refusal} → ComesToParse opts context input (Err refusal) → GivesNoRows input given (fault.Refused refusal)
     no_parse {refusal} why = no_rows opts refusal tells (subst (λ (c : Option (List ℕ)). ComesToParse opts c input (Err refusal)) is why) refl
 
 -- the task Write is one of every input
 writes_in : (context : Option (List ℕ)) → may_be_in 3 context ≡ true
-writes_in (Some name) = refl
-writes_in None = refl
+writes_in context = grind arith
 
 module _ {input : List ℕ} {given : Given} {places : Bool} {parsed : Parsed} (h : GivesParse input given places parsed) where
   -- memory ran out for what was to be made of a parse
@@ -62,16 +48,15 @@ module _ {input : List ℕ} {given : Given} {places : Bool} {parsed : Parsed} (h
 
   errors_where : (wants : Bool) → GivesWanted wants (GivesErrors input given) (if wants then map error_row parsed.errors.items else [])
   errors_where false = refl
-  errors_where true =
-      let (parse, made, parses, told) = h.answers in record { opts = h.opts; tells = h.tells; parse = parse; parses = parses; rows_are = ap (map error_row) made.errors }
+  errors_where true = let (parse, made, parses, told) = h.answers in
+      record { opts = h.opts; tells = h.tells; parse = parse; parses = parses; rows_are = ap (map error_row) made.errors }
 
   origins_where : (wants : Bool) (kept : Option (List Origin)) → h.opts.places ≡ wants → TellsPlaces h.opts (case_given given) input kept
       → GivesWanted wants (GivesOrigins input given) (origins_by kept (children_of parsed.root parsed.tree.trees))
   origins_where false None asks told = refl
   origins_where false (Some list) asks (told, its) = absurd cc
   origins_where true None asks told = absurd cc
-  origins_where true (Some list) asks (told, its) =
-      let (parse, made, parses, all) = h.answers in
+  origins_where true (Some list) asks (told, its) = let (parse, made, parses, all) = h.answers in
       record {
         opts = h.opts;
         tells = h.tells;

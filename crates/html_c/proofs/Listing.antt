@@ -1,17 +1,5 @@
 -- The nodes of a tree, listed one after another.
-use Rattle.html_c.proofs.Names.{◌≡◌, ℕ, ◌<◌, ◌+◌, List, [], ◌∷◌, ◌++◌, Some, refl, sym, ap, ap₂, append-nil, ◌∙◌, flat_map, length, map, text_of, Forest, none, tree, children_of, mapped, kind_in, kind_number, link_to, rows_of, words_of}
-use Rattle.std.proofs.Common.{length-append, suc}
-use Rattle.std.proofs.lemmas.Grind.{flat_map-append}
-use Rattle.std.proofs.lemmas.List.{map-append}
-use Rattle.std.specs.Option.{option_map, option_map_or}
-use Rattle.names.specs.Names.{Texts}
-use Rattle.hnodes.specs.Edits.{AreCounted}
-use Rattle.hnodes.specs.Passed.{order}
-use Rattle.hnodes.specs.Spots.{what_of}
-use Rattle.hserialize.proofs.Seen.{Seen, seen}
-use Rattle.html_c.specs.Rows.{node_words_at, origin_at, origins_of, row_at, tree_row}
-use Rattle.hparse.specs.declared.origins.Origin.{Origin}
-use Rattle.html_c.specs.declared.answer.NodeRow.{NodeRow}
+use Rattle.html_c.proofs.Names.{◌≡◌, ℕ, ◌<◌, ◌+◌, List, [], ◌∷◌, ◌++◌, Some, refl, sym, ap, ap₂, append-nil, ◌∙◌, flat_map, length, map, text_of, Forest, none, tree, children_of, mapped, kind_in, kind_number, link_to, rows_of, words_of, length-append, suc, flat_map-append, map-append, option_map, option_map_or, Texts, AreCounted, order, what_of, Seen, seen, node_words_at, origin_at, origins_of, row_at, tree_row, Origin, NodeRow, arith}
 
 -- the row of a node, and its words
 abbrev pub node_row : Forest ℕ → ℕ → List NodeRow
@@ -23,30 +11,34 @@ node_bytes names f n = node_words_at (text_of names) (what_of n f)
 module _ (made : ℕ) (f : Forest ℕ) (root : ℕ) where
   rows_listed : (p : ℕ) (g : Forest ℕ) → Seen made f root p g → flat_map (node_row f) (order g) ≡ rows_of p g
   rows_listed p none s = refl
-  rows_listed p (tree b w kids rest) (is, inside, after) =
-      (λ i. record {
-        number = b;
-        kind = option_map_or kind_number (option_map kind_in (is.what i)) 0;
-        parent = link_to (is.parent i);
-        first_child = link_to (is.first i);
-        next = link_to (is.next i);
-      } ∷ flat_map (node_row f) (order kids ++ order rest))
-      ∙ ap (λ l. tree_row b (Some p) w kids rest ∷ l)
-      (flat_map-append (node_row f) (order kids) (order rest) ∙ ap₂ (λ (l r : List NodeRow). l ++ r) (rows_listed b kids inside) (rows_listed p rest after))
+  rows_listed p (tree b w kids rest) (is, inside, after) = rw (
+    is.what,
+    is.parent,
+    is.first,
+    is.next,
+    flat_map-append (node_row f) (order kids) (order rest),
+    rows_listed b kids inside,
+    rows_listed p rest after,
+  ) refl
 
   words_listed : (names : Texts) (p : ℕ) (g : Forest ℕ) → Seen made f root p g → flat_map (node_bytes names f) (order g) ≡ words_of (mapped (text_of names) g)
   words_listed names p none s = refl
-  words_listed names p (tree b w kids rest) (is, inside, after) =
-      (λ i. node_words_at (text_of names) (is.what i) ++ flat_map (node_bytes names f) (order kids ++ order rest))
-      ∙ ap (λ l. node_words_at (text_of names) (Some w) ++ l)
-      (flat_map-append (node_bytes names f) (order kids) (order rest) ∙ ap₂ (λ (l r : List ℕ). l ++ r) (words_listed names b kids inside) (words_listed names p rest after))
+  words_listed names p (tree b w kids rest) (is, inside, after) = rw (
+    is.what,
+    flat_map-append (node_bytes names f) (order kids) (order rest),
+    words_listed names b kids inside,
+    words_listed names p rest after,
+  ) refl
 
 -- where none is left, the nodes so far are all of those inside a node
-pub all_listed : (names : Texts) (made : ℕ) (f : Forest ℕ) (root : ℕ) (nodes left : List ℕ) → AreCounted made f → root < made → nodes ++ left ≡ order (children_of root f) → left ≡ []
-    → (flat_map (node_row f) nodes ≡ rows_of root (children_of root f)) × (flat_map (node_bytes names f) nodes ≡ words_of (mapped (text_of names) (children_of root f)))
-all_listed names made f root nodes left counted h are none_left =
-    let s = seen made f counted root h in let all = sym (append-nil nodes) ∙ ap (λ l. nodes ++ l) (sym none_left) ∙ are in
-    (ap (flat_map (node_row f)) all ∙ rows_listed made f root root (children_of root f) s, ap (flat_map (node_bytes names f)) all ∙ words_listed made f root names root (children_of root f) s)
+pub all_listed : (names : Texts) (made : ℕ) (f : Forest ℕ) (root : ℕ) (nodes left : List ℕ) → AreCounted made f → root < made
+    → nodes ++ left ≡ order (children_of root f) → left ≡ [] → (flat_map (node_row f) nodes ≡ rows_of root (children_of root f))
+    × (flat_map (node_bytes names f) nodes ≡ words_of (mapped (text_of names) (children_of root f)))
+all_listed names made f root nodes left counted h are none_left = let s = seen made f counted root h in
+    let all = sym (append-nil nodes) ∙ ap (λ l. nodes ++ l) (sym none_left) ∙ are in (
+      ap (flat_map (node_row f)) all ∙ rows_listed made f root root (children_of root f) s,
+      ap (flat_map (node_bytes names f)) all ∙ words_listed made f root names root (children_of root f) s,
+    )
 
 pub all_told : (list : List Origin) (f : Forest ℕ) (nodes left : List ℕ) → nodes ++ left ≡ order f → left ≡ [] → map (origin_at list) nodes ≡ origins_of list f
 all_told list f nodes left are none_left = ap (map (origin_at list)) (sym (append-nil nodes) ∙ ap (λ l. nodes ++ l) (sym none_left) ∙ are)
@@ -54,6 +46,5 @@ all_told list f nodes left are none_left = ap (map (origin_at list)) (sym (appen
 -- there are as many rows of origins as of nodes
 pub as_many : (list : List Origin) (p : ℕ) (f : Forest ℕ) → length (origins_of list f) ≡ length (rows_of p f)
 as_many list p none = refl
-as_many list p (tree b w kids rest) =
-    ap suc (ap length (map-append (origin_at list) (order kids) (order rest)) ∙ length-append (origins_of list kids) (origins_of list rest)
-    ∙ ap₂ (λ m n. m + n) (as_many list b kids) (as_many list p rest) ∙ sym (length-append (rows_of b kids) (rows_of p rest)))
+as_many list p (tree b w kids rest) = rw (map-append (origin_at list) (order kids) (order rest)) (simp length-append
+    (omega (arith, as_many list b kids, as_many list p rest)))

@@ -1,7 +1,5 @@
 -- What comes of a call that is passed up.
-use Rattle.html_c.proofs.Names.{◌≡◌, ℕ, Result, Ok, Err, sym, subst, IsErrAnd, CallFault}
-use Rattle.std.proofs.Common.{MatchResult}
-use Rattle.html_c.specs.Given.{GivesNothing, no_size, of_size}
+use Rattle.html_c.proofs.Names.{◌≡◌, ℕ, Result, Ok, Err, sym, subst, IsErrAnd, CallFault, MatchResult, GivesNothing, no_size, of_size}
 
 pub fails : {T : Type 0} (r : Result T CallFault) (f : CallFault) (P : T → Type 0) (Q : CallFault → Type 0) → IsErrAnd r (λ g. g ≡ f) → Q f → MatchResult r P Q
 fails (Ok x) f P Q is h = absurd is

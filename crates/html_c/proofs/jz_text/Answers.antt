@@ -1,6 +1,4 @@
-use Rattle.html_c.proofs.Names.{refl}
-use Rattle.html_c.specs.Exports.{none_answered, text_answered}
-use Rattle.html_c.specs.Fitted.{fitted_text}
+use Rattle.html_c.proofs.Names.{refl, none_answered, text_answered, fitted_text}
 use Rattle.html_c.proofs.jz_text.Goals as goal
 use Rattle.html_c.proofs.jz_text.Goals.{in-Err, in-Ok}
 

@@ -1,4 +1,4 @@
-use Rattle.html_c.specs.Table.{Flat}
+use Rattle.html_c.proofs.Names.{Flat}
 use Rattle.html_c.proofs.Tables.{table_is}
 use Rattle.html_c.proofs.given.flat_table.Goals as goal
 

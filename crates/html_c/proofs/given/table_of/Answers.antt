@@ -1,5 +1,4 @@
-use Rattle.html_c.proofs.Names.{rules}
-use Rattle.html_c.specs.Table.{Core}
+use Rattle.html_c.proofs.Names.{rules, Core}
 use Rattle.html_c.proofs.Tables.{table_is}
 use Rattle.html_c.proofs.given.table_of.Goals as goal
 

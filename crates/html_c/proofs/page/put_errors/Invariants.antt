@@ -1,5 +1,4 @@
-use Rattle.html_c.proofs.Names.{PutsAt, map, take}
-use Rattle.html_c.specs.Page.{error_row}
+use Rattle.html_c.proofs.Names.{PutsAt, map, take, error_row}
 use Rattle.html_c.proofs.page.put_errors.Given as goal
 
 abbrev pub invariant-loop-error : goal.invariant-loop-error

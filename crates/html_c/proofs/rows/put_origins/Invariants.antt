@@ -1,6 +1,4 @@
-use Rattle.html_c.proofs.Names.{◌≡◌, ◌++◌, PutsAt, children_of, map}
-use Rattle.hnodes.specs.Passed.{order}
-use Rattle.html_c.specs.Rows.{origin_at}
+use Rattle.html_c.proofs.Names.{◌≡◌, ◌++◌, PutsAt, children_of, map, order, origin_at}
 use Rattle.html_c.proofs.rows.put_origins.Given as goal
 
 abbrev pub invariant-loop-node : goal.invariant-loop-node

@@ -11,15 +11,11 @@ loop-node-preserved c = record {
 }
 
 pub returns-clause-rows : goal.returns-clause-rows
-returns-clause-rows c =
-    let parsed = c.args.parsed.now in let loop = c.loop-node in
-    subst (λ its. PutsAt 0 its c.args.rows.now loop.rows loop.row_end)
-    (all_listed parsed.names parsed.tree.made parsed.tree.trees parsed.root loop.yielded loop.node-iterator c.descendants-node-items.ensures.nodes.counted (search rules)
-    loop.invariant.nodes c.in-None.ensures.steps.0).0 loop.invariant.rows
+returns-clause-rows c = let parsed = c.args.parsed.now in let loop = c.loop-node in
+    subst (λ its. PutsAt 0 its c.args.rows.now loop.rows loop.row_end) (all_listed parsed.names parsed.tree.made parsed.tree.trees parsed.root loop.yielded
+    loop.node-iterator c.descendants-node-items.ensures.nodes.counted (search rules) loop.invariant.nodes c.in-None.ensures.steps.0).0 loop.invariant.rows
 
 pub returns-clause-words : goal.returns-clause-words
-returns-clause-words c =
-    let parsed = c.args.parsed.now in let loop = c.loop-node in
-    subst (λ its. PutsAt 0 its c.args.words.now loop.words loop.word_end)
-    (all_listed parsed.names parsed.tree.made parsed.tree.trees parsed.root loop.yielded loop.node-iterator c.descendants-node-items.ensures.nodes.counted (search rules)
-    loop.invariant.nodes c.in-None.ensures.steps.0).1 loop.invariant.words
+returns-clause-words c = let parsed = c.args.parsed.now in let loop = c.loop-node in
+    subst (λ its. PutsAt 0 its c.args.words.now loop.words loop.word_end) (all_listed parsed.names parsed.tree.made parsed.tree.trees parsed.root loop.yielded
+    loop.node-iterator c.descendants-node-items.ensures.nodes.counted (search rules) loop.invariant.nodes c.in-None.ensures.steps.0).1 loop.invariant.words

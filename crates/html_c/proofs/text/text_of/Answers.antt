@@ -15,12 +15,12 @@ returns-in_err-lists-clause-says c =
     fails _ _ _ _ c.from_residual-in_err-lists.ensures.1 (of_size c.in_ok-settings.ensures.size (no_command (unmet c.in_err-lists.ensures)))
 
 pub text_in-text-requires-clause-context : goal.text_in-text-requires-clause-context
-text_in-text-requires-clause-context c =
-    let command = c.in_ok-command.command in allowed command.task c.in_ok-command.ensures.context c.in_ok-settings.ensures.allows
+text_in-text-requires-clause-context c = let command = c.in_ok-command.command in
+    allowed command.task c.in_ok-command.ensures.context c.in_ok-settings.ensures.allows
 
 pub returns-in_err-text-clause-says : goal.returns-in_err-text-clause-says
-returns-in_err-text-clause-says c =
-    fails _ _ _ _ c.from_residual-in_err-text.ensures.1 (of_size c.in_ok-settings.ensures.size (no_text c.options-options.ensures.told c.in_ok-command.ensures c.in_err-text.ensures.says))
+returns-in_err-text-clause-says c = fails _ _ _ _ c.from_residual-in_err-text.ensures.1
+    (of_size c.in_ok-settings.ensures.size (no_text c.options-options.ensures.told c.in_ok-command.ensures c.in_err-text.ensures.says))
 
 pub returns-clause-says : goal.returns-clause-says
 returns-clause-says c = a_text c.options-options.ensures.told c.in_ok-command.ensures c.in_ok-text.ensures.says

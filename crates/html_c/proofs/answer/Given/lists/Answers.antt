@@ -1,5 +1,4 @@
-use Rattle.html_c.proofs.Names.{Ok, Err, refl, subst, ReadsQuirks}
-use Rattle.html_c.specs.Given.{no_quirks, no_table, quirks_refused}
+use Rattle.html_c.proofs.Names.{Ok, Err, refl, subst, ReadsQuirks, no_quirks, no_table, quirks_refused}
 use Rattle.html_c.proofs.Outcomes.{fails}
 use Rattle.html_c.proofs.answer.Given.lists.Goals as goal
 
@@ -10,8 +9,8 @@ pub returns-in_err-text_of : goal.returns-in_err-text_of
 returns-in_err-text_of c = let (none, is) = c.in_err-text_of.ensures in fails _ _ _ _ c.from_residual-in_err-text_of.ensures.1 (no_quirks none is)
 
 pub returns-in_err-quirks : goal.returns-in_err-quirks
-returns-in_err-quirks c =
-    fails _ _ _ _ c.from_residual-in_err-quirks.ensures.1 (quirks_refused _ (subst (λ t. ReadsQuirks t (Err c.in_err-quirks.field-0.0)) c.in_ok-text_of.ensures c.in_err-quirks.ensures) refl)
+returns-in_err-quirks c = fails _ _ _ _ c.from_residual-in_err-quirks.ensures.1
+    (quirks_refused _ (subst (λ t. ReadsQuirks t (Err c.in_err-quirks.field-0.0)) c.in_ok-text_of.ensures c.in_err-quirks.ensures) refl)
 
 pub returns : goal.returns
 returns c = record {
