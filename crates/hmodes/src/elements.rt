@@ -353,7 +353,8 @@ impl<'q> TreeConstruction<'q> {
 
     /// Implied end tags but rtc in a ruby; it or an rtc should be the current node then.
     fn in_ruby_text(&mut self, at: u64) -> Result<(), Refusal>
-        ensures { Does at (when (has_in scope.Default tag.Ruby) (implied_except tag.Rtc) ▸ unless (current_is tag.Rtc) (unless (current_is tag.Ruby) (error InBody)))
+        ensures { Does at (when (has_in scope.Default tag.Ruby) (implied_except tag.Rtc)
+            ▸ unless (current_is tag.Rtc) (unless (current_is tag.Ruby) (error InBody)))
             self.old result self.new }
     {
         let ruby = Tag::Ruby.number();

@@ -1,5 +1,5 @@
 -- The nodes of a tree, listed one after another.
-use Rattle.html_c.proofs.Names.{◌≡◌, ℕ, ◌<◌, ◌+◌, List, [], ◌∷◌, ◌++◌, Some, refl, sym, ap, ap₂, append-nil, ◌∙◌, flat_map, length, map, text_of, Forest, none, tree, children_of, mapped, kind_in, kind_number, link_to, rows_of, words_of, length-append, suc, flat_map-append, map-append, option_map, option_map_or, Texts, AreCounted, order, what_of, Seen, seen, node_words_at, origin_at, origins_of, row_at, tree_row, Origin, NodeRow, arith}
+use Rattle.html_c.proofs.Names.{◌≡◌, ℕ, ◌<◌, ◌+◌, List, [], ◌∷◌, ◌++◌, refl, sym, ap, append-nil, ◌∙◌, flat_map, length, map, text_of, Forest, none, tree, children_of, mapped, rows_of, words_of, length-append, flat_map-append, map-append, Texts, AreCounted, order, what_of, Seen, seen, node_words_at, origin_at, origins_of, row_at, Origin, NodeRow, arith}
 
 -- the row of a node, and its words
 abbrev pub node_row : Forest ℕ → ℕ → List NodeRow

@@ -1,5 +1,5 @@
 -- What a reading does whose reads do not fail, and the rows of what it gives.
-use Rattle.html_c.proofs.Names.{◌≡◌, ℕ, List, [], ◌∷◌, ◌++◌, Option, Some, None, Result, Ok, Err, inl, inr, sym, subst, map, ap, ap₂, ◌∙◌, refl, append-nil, Bool, IsErrAnd, Refusal, Memory, text_of, Forest, none, tree, children_of, mapped, kind_in, left_in, Parsed, ParseOptions, AllowsContext, case_in, none_for_memory, none_of_bytes, kind_number, link_to, rows_of, words_of, ComesToParse, GivesParse, Given, ◌⊎◌, BadContext, What, document, doctype, element, comment, text, order, mapped_what, first_or, Parses, Origin, AnswersParse, ReadsInput, reading_ran_out, reading_failed, reading_stopped, read_to_end, children_are, GivesRows, case_given, Input, origin_at, origins_of, parsed_rows, parsed_words, arith}
+use Rattle.html_c.proofs.Names.{◌≡◌, ℕ, List, [], ◌∷◌, ◌++◌, Option, Some, None, Result, Ok, Err, inl, inr, sym, subst, map, ap, ap₂, ◌∙◌, refl, append-nil, Bool, IsErrAnd, Refusal, Memory, text_of, Forest, none, tree, children_of, mapped, kind_in, left_in, Parsed, ParseOptions, AllowsContext, case_in, none_for_memory, none_of_bytes, rows_of, words_of, ComesToParse, GivesParse, Given, ◌⊎◌, BadContext, What, order, mapped_what, first_or, Parses, Origin, AnswersParse, ReadsInput, reading_ran_out, reading_failed, reading_stopped, read_to_end, children_are, GivesRows, case_given, Input, origin_at, origins_of, parsed_rows, parsed_words, arith}
 
 module _ (opts : ParseOptions) (context : Option (List ℕ)) where
   answered : (source : Input) (bytes : List ℕ) (answer : Result Parsed Refusal) → left_in source ≡ bytes → AnswersParse opts (case_in context) bytes answer

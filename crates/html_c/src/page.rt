@@ -125,7 +125,8 @@ impl Page {
         requires { self.now.text.room ≡ length text.old }
         ensures put { as_parts rows.new words.new errors.new text.new origins.new
             ≡ put_parts (page_parts self.now) (as_parts rows.old words.old errors.old text.old origins.old) }
-        ensures answer { result ≡ page_answer (all_fit (page_parts self.now) (as_parts rows.old words.old errors.old text.old origins.old)) (page_parts self.now) }
+        ensures answer { result ≡ page_answer (all_fit (page_parts self.now) (as_parts rows.old words.old errors.old text.old origins.old))
+            (page_parts self.now) }
     {
         let fits = self.tree.nodes <= rows.len()
             && self.tree.words <= words.len()
