@@ -1,15 +1,14 @@
 -- What is kept, as it is stated and as the proofs use it.
-use Rattle.hadopt.proofs.Names.{◌≡◌, refl, sym, ◌∙◌, at-most, below-document, in-document, deep-is, Naming, numbers, texts, number_of, tag_text, Table, eqb-true, SiteOf, stack, trees, TellsTables, IsSound}
-use Rattle.std.proofs.lemmas.Slice.Eq.{bytes_eq-Decides}
+use Rattle.hadopt.proofs.Names.{◌≡◌, refl, sym, ◌∙◌, at-most, below-document, in-document, deep-is, Naming, numbers, texts, number_of, tag_text, Table, eqb-true, SiteOf, stack, trees, TellsTables, IsSound, bytes_eq-Decides}
 use Rattle.hadopt.proofs.Lists.{each-map, pairs-map}
 use Rattle.hadopt.proofs.Settling.{Well}
 
 module _ {N : Type 0} (n : Naming N) where
   pub to-well : (s : SiteOf N) → IsSound n s → Well n s
-  to-well s h = record {
+  to-well s h = let f = trees s in let o = h.open_stands in record {
     counted = h.counted;
-    each = each-map _ _ (λ x p. below-document s.nodes.made (trees s) h.counted x.node p) (stack s) h.open_stands.stand;
-    order = pairs-map (λ x. Unit {0}) _ _ (λ a b p q r. deep-is b.node a.node (trees s) (at-most s.nodes.made (trees s) h.counted a.node) ∙ r) (stack s) (each-map _ _ (λ x p. tt) (stack s) h.open_stands.stand) h.open_stands.order;
+    each = each-map _ _ (λ x p. below-document s.nodes.made f h.counted x.node p) (stack s) o.stand;
+    order = pairs-map _ _ _ (λ a b p q r. deep-is b.node a.node f (at-most s.nodes.made f h.counted a.node) ∙ r) (stack s) o.stand o.order;
     plain = h.plain;
   }
 
@@ -18,7 +17,8 @@ module _ {N : Type 0} (n : Naming N) where
     counted = h.counted;
     open_stands = record {
       stand = each-map _ _ (λ x p. in-document s.nodes.made (trees s) h.counted x.node p.0 p.1) (stack s) h.each;
-      order = pairs-map (λ x. Unit {0}) _ _ (λ a b p q r. sym (deep-is b.node a.node (trees s) (at-most s.nodes.made (trees s) h.counted a.node)) ∙ r) (stack s) (each-map _ _ (λ x p. tt) (stack s) h.each) h.order;
+      order =
+          pairs-map _ _ _ (λ a b p q r. sym (deep-is b.node a.node (trees s) (at-most s.nodes.made (trees s) h.counted a.node)) ∙ r) (stack s) h.each h.order;
     };
     plain = h.plain;
   }

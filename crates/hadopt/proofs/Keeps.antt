@@ -1,9 +1,6 @@
 -- What a turn of the adoption agency's outer loop keeps, and what its steps ask. In the inner loop the formatting element stays open, its entry
 -- stays in the list, and so does the bookmark.
-use Rattle.hadopt.proofs.Names.{◌≡◌, ◌≢◌, ℕ, suc, ◌<◌, true, not, eqb, leb, cond, ◌||◌, List, [], ◌∷◌, is_some, refl, sym, ◌∙◌, ap, arith, eqb-true, eq-eqb, ne_eqb, cond_both, or-true, list_any, before, OpenNode, is_node, Listed, marker, entry, is_entry, without_entry, for_node, with_node, Bookmark, InPlace, After, numbers, InnerLoop, entries_for, inner_turn, inner_loop, Each, Bool, false, Some, None, nat_eq, subst, Ok, Err, ◌⊎◌, inl, inr, Result, IfOk, IfSome, Refusal, some_same, is_open, in_scope, furthest_block, above, below, current, Forest, AreCounted, place_node, at-most, deep-there, is-there, deep, deep-is, deep-self, place_in, stops_in_scope, Default, EntryOf, find_entry, tag_of, ErrorCode, Goes, SiteOf, stack, trees, error_unless, outer_turn, IsSound, AreDifferent, WithFurthestBlock, option_map_or, TreeInBody, current_is, Ended, popped_with, with_furthest_block, with_formatting_element, with_error, topmost_special}
-use Rattle.std.specs.Prelude.{IsTrue}
-use Rattle.hopen.specs.Formatting.{has_bookmark}
-use Rattle.hopen.proofs.Bookmarks.{any-is_entry, has_bookmark-after}
+use Rattle.hadopt.proofs.Names.{◌≡◌, ◌≢◌, ℕ, suc, ◌<◌, true, not, eqb, leb, cond, ◌||◌, List, [], ◌∷◌, is_some, refl, sym, ◌∙◌, ap, arith, eqb-true, eq-eqb, ne_eqb, cond_both, or-true, list_any, before, OpenNode, is_node, Listed, marker, entry, is_entry, without_entry, for_node, with_node, Bookmark, InPlace, After, numbers, InnerLoop, entries_for, inner_turn, inner_loop, Each, Bool, false, Some, None, nat_eq, subst, Ok, Err, ◌⊎◌, inl, inr, Result, IfOk, IfSome, Refusal, some_same, is_open, in_scope, furthest_block, above, below, current, Forest, AreCounted, place_node, at-most, deep-there, is-there, deep, deep-is, deep-self, place_in, stops_in_scope, Default, EntryOf, find_entry, tag_of, ErrorCode, Goes, SiteOf, stack, trees, error_unless, outer_turn, IsSound, AreDifferent, WithFurthestBlock, option_map_or, TreeInBody, current_is, Ended, popped_with, with_furthest_block, with_formatting_element, with_error, topmost_special, IsTrue, has_bookmark, any-is_entry, has_bookmark-after, turn_of, TurnGives, AfterInnerLoop}
 use Rattle.hadopt.proofs.Lists.{each-map, each-both, pairs-map, Among, skip, keep, among-after, each-among, front-among}
 use Rattle.hadopt.proofs.Climbing.{OnGoes, goes-then, turn-goes, Climbing}
 use Rattle.hadopt.proofs.Choices.{by_test, or-on}
@@ -13,8 +10,6 @@ use Rattle.hadopt.proofs.Turning.{WellAfter, erred, outer-turn-well, open-stands
 use Rattle.hadopt.proofs.Keeping.{to-well, from-well, numbers-tell}
 use Rattle.hadopt.specs.declared.adopting.Turn as code
 use Rattle.hadopt.specs.declared.adopting.Turn.TheVariants as turn
-use Rattle.hadopt.specs.Meets.{turn_of, TurnGives}
-use Rattle.hadopt.specs.AfterInnerLoop.{AfterInnerLoop}
 
 abbrev Has : ℕ → List (Listed ℕ) → Type 0
 Has k items = list_any (is_entry k) items ≡ true
@@ -36,7 +31,8 @@ has-with k x new (entry e ∷ items) apart h = by_test (eqb e.node x) (λ v. Has
 has-new : (x new : ℕ) (items : List (Listed ℕ)) → Has x items → Has new (with_node x new items)
 has-new x new [] h = cc
 has-new x new (marker ∷ items) h = has-new x new items h
-has-new x new (entry e ∷ items) h = by_test (eqb e.node x) (λ v. (v || list_any (is_entry x) items) ≡ true → Has new (cond v (for_node new (entry e) ∷ items) (entry e ∷ with_node x new items)))
+has-new x new (entry e ∷ items) h = by_test (eqb e.node x)
+    (λ v. (v || list_any (is_entry x) items) ≡ true → Has new (cond v (for_node new (entry e) ∷ items) (entry e ∷ with_node x new items)))
     (λ _ _. rw (eq-eqb new new refl) refl) (λ _ k. or-on (eqb e.node new) (λ _. has-new x new items k) (or-true (eqb e.node new))) h
 
 -- a bookmark is in place, or after an entry that no node on the way has, nor F
@@ -53,31 +49,38 @@ pub record Booked (f : ℕ) (way : List (OpenNode ℕ)) (c : InnerLoop ℕ) : Ty
 has-for : (k passed x : ℕ) (items : List (Listed ℕ)) → k ≢ x → Has k items → Has k (entries_for passed x items)
 has-for k passed x items apart h = cond_both (leb 3 passed) _ _ (Has k) (λ _. has-without k x items apart h) (λ _. h)
 
-marked-for : (f passed : ℕ) (b : Bookmark) (x : OpenNode ℕ) (way : List (OpenNode ℕ)) (items : List (Listed ℕ)) → IsMarked f b (x ∷ way) items → IsMarked f b way (entries_for passed x.node items)
+marked-for : (f passed : ℕ) (b : Bookmark) (x : OpenNode ℕ) (way : List (OpenNode ℕ)) (items : List (Listed ℕ)) → IsMarked f b (x ∷ way) items
+    → IsMarked f b way (entries_for passed x.node items)
 marked-for f passed InPlace x way items m = tt
 marked-for f passed (After k) x way items m = (has-for k passed x.node items m.2.0 m.0, m.1, m.2.1)
 
 -- of the new entry, too
-marked-with : (f passed new : ℕ) (b : Bookmark) (x : OpenNode ℕ) (way : List (OpenNode ℕ)) (items : List (Listed ℕ)) → IsMarked f b (x ∷ way) items → IsMarked f b way (with_node x.node new (entries_for passed x.node items))
+marked-with : (f passed new : ℕ) (b : Bookmark) (x : OpenNode ℕ) (way : List (OpenNode ℕ)) (items : List (Listed ℕ)) → IsMarked f b (x ∷ way) items
+    → IsMarked f b way (with_node x.node new (entries_for passed x.node items))
 marked-with f passed new InPlace x way items m = tt
-marked-with f passed new (After k) x way items m = (has-with k x.node new (entries_for passed x.node items) m.2.0 (has-for k passed x.node items m.2.0 m.0), m.1, m.2.1)
+marked-with f passed new (After k) x way items m =
+    (has-with k x.node new (entries_for passed x.node items) m.2.0 (has-for k passed x.node items m.2.0 m.0), m.1, m.2.1)
 
-one-booked : (at f block passed : ℕ) (x : OpenNode ℕ) (way : List (OpenNode ℕ)) (c : InnerLoop ℕ) → Booked f (x ∷ way) c → OnGoes (Booked f way) (inner_turn numbers at block passed x c)
-one-booked at f block passed x way c h = turn-goes numbers (Booked f way) at block passed x c
-    (record { low = h.low; has = has-for f passed x.node c.site.items h.others.0.0 h.has; others = h.others.1; marked = marked-for f passed c.bookmark x way c.site.items h.marked })
-    (λ e is. record {
+one-booked : (at f block passed : ℕ) (x : OpenNode ℕ) (way : List (OpenNode ℕ)) (c : InnerLoop ℕ) → Booked f (x ∷ way) c
+    → OnGoes (Booked f way) (inner_turn numbers at block passed x c)
+one-booked at f block passed x way c h = let items = entries_for passed x.node c.site.items in let new = c.site.nodes.made in
+    let has = has-for f passed x.node c.site.items h.others.0.0 h.has in
+    turn-goes numbers (Booked f way) at block passed x c
+    (record { low = h.low; has = has; others = h.others.1; marked = marked-for f passed c.bookmark x way c.site.items h.marked }) (λ e is. record {
       low = omega (arith, h.low);
-      has = has-with f x.node c.site.nodes.made (entries_for passed x.node c.site.items) h.others.0.0 (has-for f passed x.node c.site.items h.others.0.0 h.has);
+      has = has-with f x.node new items h.others.0.0 has;
       others = each-map _ _ (λ y p. (p.0, omega (arith, p.1))) way h.others.1;
-      marked = cond_both (eqb c.last_node block) (After c.site.nodes.made) c.bookmark (λ b. IsMarked f b way (with_node x.node c.site.nodes.made (entries_for passed x.node c.site.items)))
-          (λ _. (has-new x.node c.site.nodes.made (entries_for passed x.node c.site.items) (any-is_entry x.node (entries_for passed x.node c.site.items) ∙ ap is_some is), (λ e. omega (arith, h.low, e)), each-map _ _ (λ y p. λ e. omega (arith, p.1, e)) way h.others.1))
-          (λ _. marked-with f passed c.site.nodes.made c.bookmark x way c.site.items h.marked);
+      marked = cond_both (eqb c.last_node block) (After new) c.bookmark (λ b. IsMarked f b way (with_node x.node new items))
+          (λ _. let there = has-new x.node new items (any-is_entry x.node items ∙ ap is_some is) in
+          (there, (λ e. omega (arith, h.low, e)), each-map _ _ (λ y p. λ e. omega (arith, p.1, e)) way h.others.1))
+          (λ _. marked-with f passed new c.bookmark x way c.site.items h.marked);
     })
 
-pub inner-loop-booked : (at f block passed : ℕ) (way : List (OpenNode ℕ)) (c : InnerLoop ℕ) → Booked f way c → OnGoes (Booked f []) (inner_loop numbers at block passed way c)
+pub inner-loop-booked : (at f block passed : ℕ) (way : List (OpenNode ℕ)) (c : InnerLoop ℕ) → Booked f way c
+    → OnGoes (Booked f []) (inner_loop numbers at block passed way c)
 inner-loop-booked at f block passed [] c h = h
-inner-loop-booked at f block passed (x ∷ way) c h =
-    goes-then (Booked f way) (Booked f []) (inner_turn numbers at block passed x c) (inner_loop numbers at block (suc passed) way) (one-booked at f block passed x way c h) (λ d k. inner-loop-booked at f block (suc passed) way d k)
+inner-loop-booked at f block passed (x ∷ way) c h = goes-then (Booked f way) (Booked f []) (inner_turn numbers at block passed x c)
+    (inner_loop numbers at block (suc passed) way) (one-booked at f block passed x way c h) (λ d k. inner-loop-booked at f block (suc passed) way d k)
 
 -- what the move to the bookmark asks
 pub bookmark-there : (f : ℕ) (b : Bookmark) (items : List (Listed ℕ)) → IsMarked f b [] items → IsTrue (has_bookmark f b items)
@@ -87,7 +90,8 @@ bookmark-there f (After k) items m = has_bookmark-after f k items (rw (ne_eqb f 
 -- none on the way is F
 pub way-others : (f : ℕ) (xs : List (OpenNode ℕ)) → Each (λ x. f ≢ x.node) (before (is_node f) xs)
 way-others f [] = tt
-way-others f (x ∷ xs) = cond_both (eqb x.node f) [] _ (Each (λ x. f ≢ x.node)) (λ _. tt) (λ e. ((λ same. let clash = sym e ∙ eq-eqb x.node f (sym same) in cc), way-others f xs))
+way-others f (x ∷ xs) = cond_both (eqb x.node f) [] _ (Each (λ x. f ≢ x.node)) (λ _. tt) (λ e.
+    ((λ same. let clash = sym e ∙ eq-eqb x.node f (sym same) in cc), way-others f xs))
 
 -- What a turn of the outer loop keeps.
 
@@ -99,7 +103,8 @@ there-low : (made : ℕ) (g : Forest ℕ) (counted : AreCounted made g) (x last_
 there-low made g counted x last_node (inl a) = (deep-there made g counted x 0 a).0
 there-low made g counted x last_node (inr a) = (deep-there made g counted x last_node a).0
 
-current-low : (made : ℕ) (g : Forest ℕ) (counted : AreCounted made g) (last_node : ℕ) (up : List (OpenNode ℕ)) → Each (λ x. (0 < deep x.node 0 g) × (deep x.node last_node g ≡ 0)) up → IfSome (current up) (λ x. x.node < made)
+current-low : (made : ℕ) (g : Forest ℕ) (counted : AreCounted made g) (last_node : ℕ) (up : List (OpenNode ℕ))
+    → Each (λ x. (0 < deep x.node 0 g) × (deep x.node last_node g ≡ 0)) up → IfSome (current up) (λ x. x.node < made)
 current-low made g counted last_node [] e = tt
 current-low made g counted last_node (x ∷ up) e = (deep-there made g counted x.node 0 e.0.0).0
 
@@ -112,9 +117,9 @@ any-among p x xs (y ∷ ys) is (keep a) = rw (is) refl
 pub found-entry : (name : ℕ) (items : List (Listed ℕ)) (e : EntryOf ℕ) → find_entry nat_eq name items ≡ Some e → list_any (is_entry e.node) items ≡ true
 found-entry name [] e is = cc
 found-entry name (marker ∷ items) e is = cc
-found-entry name (entry d ∷ items) e is = cond_both (nat_eq name d.name) (Some d) (find_entry nat_eq name items) (λ o. o ≡ Some e → list_any (is_entry e.node) (entry d ∷ items) ≡ true)
-    (λ _ s. rw (some_same d e s, eq-eqb e.node e.node refl) refl)
-    (λ _ s. rw (found-entry name items e s) (or-true (is_entry e.node (entry d)))) is
+found-entry name (entry d ∷ items) e is =
+    cond_both (nat_eq name d.name) (Some d) (find_entry nat_eq name items) (λ o. o ≡ Some e → list_any (is_entry e.node) (entry d ∷ items) ≡ true)
+    (λ _ s. rw (some_same d e s, eq-eqb e.node e.node refl) refl) (λ _ s. rw (found-entry name items e s) (or-true (is_entry e.node (entry d)))) is
 
 unless-stack : (v : Bool) (code : ErrorCode) (at : ℕ) (s : SiteOf ℕ) → stack (error_unless v code at s) ≡ stack s
 unless-stack true code at s = refl
@@ -132,16 +137,17 @@ module _ (s : SiteOf ℕ) (f : ℕ) (b : OpenNode ℕ) (h : Well numbers s) (sco
   abbrev begin : InnerLoop ℕ
   begin = record { last_node = b.node; bookmark = InPlace; site = s }
 
-  there : (list_any (is_node f) (above b.node (stack s)) ≡ true) × (above f (above b.node (stack s)) ≡ above f (stack s)) × (list_any (is_node b.node) (stack s) ≡ true)
+  there : (list_any (is_node f) (above b.node (stack s)) ≡ true) × (above f (above b.node (stack s)) ≡ above f (stack s))
+      × (list_any (is_node b.node) (stack s) ≡ true)
   there = any-after (is_node f) (is_node b.node) (stack s) under is_open_now
 
   b-stands : (0 < deep b.node 0 (trees s)) × (0 < b.node)
   b-stands = open-stands numbers numbers-tell 0 b.node s h there.2
 
   way-low : Each (λ x. x.node < s.nodes.made) way
-  way-low =
-      let up = each-among _ (above b.node (stack s)) (stack s) (among-after (is_node b.node) (stack s)) h.each in
-      before-each _ (is_node f) (above b.node (stack s)) (each-map _ _ (λ x p. (deep-there s.nodes.made (trees s) h.counted x.node 0 p.0).0) (above b.node (stack s)) up)
+  way-low = let up = each-among _ (above b.node (stack s)) (stack s) (among-after (is_node b.node) (stack s)) h.each in
+      before-each _ (is_node f) (above b.node (stack s))
+      (each-map _ _ (λ x p. (deep-there s.nodes.made (trees s) h.counted x.node 0 p.0).0) (above b.node (stack s)) up)
 
   booked-start : Booked f way begin
   booked-start = record {
@@ -152,9 +158,9 @@ module _ (s : SiteOf ℕ) (f : ℕ) (b : OpenNode ℕ) (h : Well numbers s) (sco
   }
 
   pub after-there : (at : ℕ) (c : InnerLoop ℕ) → inner_loop numbers at b.node 0 way begin ≡ Goes c → AfterInnerLoop f b.node (current (above f (stack s))) c
-  after-there at c e =
-      let a = at-nearest (is_node f) (above b.node (stack s)) there.0 in
-      let k : Climbing numbers b.node (a.at ∷ a.up) c = subst (OnGoes (Climbing numbers b.node (a.at ∷ a.up))) e (inner-climbs numbers numbers-tell at f s h b under scope a) in
+  after-there at c e = let a = at-nearest (is_node f) (above b.node (stack s)) there.0 in
+      let k : Climbing numbers b.node (a.at ∷ a.up) c =
+      subst (OnGoes (Climbing numbers b.node (a.at ∷ a.up))) e (inner-climbs numbers numbers-tell at f s h b under scope a) in
       let m : Booked f [] c = subst (OnGoes (Booked f [])) e (inner-loop-booked at f b.node 0 way begin booked-start) in
       let fits = place-fits numbers b.node (a.at ∷ a.up) c k a.at a.up refl in
       let common_ancestor : current (above f (stack s)) ≡ current a.up = ap current (sym there.1 ∙ a.up_is) in
@@ -164,7 +170,8 @@ module _ (s : SiteOf ℕ) (f : ℕ) (b : OpenNode ℕ) (h : Well numbers s) (sco
         block_begun = k.block_in.1;
         block_in = there-low c.site.nodes.made (trees c.site) k.counted b.node c.last_node k.block_in.0;
         ancestor_in = rw (common_ancestor) (current-low c.site.nodes.made (trees c.site) k.counted c.last_node a.up k.behind.1);
-        place_outside = rw (common_ancestor) (sym (deep-is (place_node (place_in numbers (current a.up) c.site)) c.last_node (trees c.site) (at-most c.site.nodes.made (trees c.site) k.counted c.last_node)) ∙ fits.outside);
+        place_outside = rw (common_ancestor) (sym (deep-is (place_node (place_in numbers (current a.up) c.site)) c.last_node (trees c.site)
+            (at-most c.site.nodes.made (trees c.site) k.counted c.last_node)) ∙ fits.outside);
         formatting_open = any-among (is_node f) a.at a.up (stack c.site) a.sought (front-among _ (a.at ∷ a.up) (stack c.site) k.front);
         entry = m.has;
         bookmark = bookmark-there f c.bookmark c.site.items m.marked;
@@ -175,56 +182,66 @@ module _ (s : SiteOf ℕ) (f : ℕ) (b : OpenNode ℕ) (h : Well numbers s) (sco
 
   -- no node is inside itself, and each is somewhere
   others : (x y : OpenNode ℕ) → 0 < deep x.node 0 (trees s) → deep y.node x.node (trees s) ≡ 0 → x.node ≢ y.node
-  others x y there out same =
-      let within : deep x.node x.node (trees s) ≡ 0 = subst (λ (k : ℕ). deep k x.node (trees s) ≡ 0) (sym same) out in
+  others x y there out same = let within : deep x.node x.node (trees s) ≡ 0 = subst (λ (k : ℕ). deep k x.node (trees s) ≡ 0) (sym same) out in
       omega (arith, within, deep-self x.node (trees s), is-there s.nodes.made (trees s) h.counted x.node (low x there))
 
   different : AreDifferent s
   different = record {
     made = each-map _ _ (λ x p. low x p.0) (stack s) h.each;
-    apart = pairs-map (λ x. (0 < deep x.node 0 (trees s)) × (0 < x.node)) (λ x y. deep y.node x.node (trees s) ≡ 0) _ (λ x y p q out. ne_eqb x.node y.node (others x y p.0 out)) (stack s) h.each h.order;
+    apart = pairs-map _ _ _ (λ x y p q out. ne_eqb x.node y.node (others x y p.0 out)) (stack s) h.each h.order;
   }
 
   pub furthest-block-there : WithFurthestBlock f b.node s
   furthest-block-there = record { begun = b-stands.1; block_in = low b b-stands.0; different = different; after = after-there }
 
 -- .. also after the error that the formatting element is not the current node
-pub blocked-stands : (at : ℕ) (s t : SiteOf ℕ) (f : ℕ) (block : OpenNode ℕ) → Goes (with_error TreeInBody at s) ≡ Goes t → IsSound numbers s → in_scope (stops_in_scope tag_of Default) (is_node f) (stack s) ≡ true → list_any (is_entry f) s.items ≡ true
+pub blocked-stands : (at : ℕ) (s t : SiteOf ℕ) (f : ℕ) (block : OpenNode ℕ) → Goes (with_error TreeInBody at s) ≡ Goes t → IsSound numbers s
+    → in_scope (stops_in_scope tag_of Default) (is_node f) (stack s) ≡ true → list_any (is_entry f) s.items ≡ true
     → furthest_block tag_of f (stack s) ≡ Some block → WithFurthestBlock f block.node t
-blocked-stands at s t f block told k scope e b =
-    let same : with_error TreeInBody at s ≡ t = cc in
+blocked-stands at s t f block told k scope e b = let same : with_error TreeInBody at s ≡ t = cc in
     let h = erred numbers s TreeInBody at (to-well numbers s k) in
-    subst (λ (u : SiteOf ℕ). WithFurthestBlock f block.node u) same (furthest-block-there (with_error TreeInBody at s) f block h scope e (special-there tag_of (below f (stack s)) block b))
+    subst (λ (u : SiteOf ℕ). WithFurthestBlock f block.node u) same
+    (furthest-block-there (with_error TreeInBody at s) f block h scope e (special-there tag_of (below f (stack s)) block b))
 
 -- a formatting element with a furthest block is not the current node
-blocked-current : (f : ℕ) (block : OpenNode ℕ) (xs : List (OpenNode ℕ)) → furthest_block tag_of f xs ≡ Some block → option_map_or (is_node f) (current xs) false ≡ false
+blocked-current : (f : ℕ) (block : OpenNode ℕ) (xs : List (OpenNode ℕ)) → furthest_block tag_of f xs ≡ Some block
+    → option_map_or (is_node f) (current xs) false ≡ false
 blocked-current f block [] b = refl
-blocked-current f block (x ∷ up) b = by_test (is_node f x) (λ v. topmost_special tag_of (cond v [] (x ∷ before (is_node f) up)) ≡ Some block → v ≡ false) (λ _ k. cc) (λ _ _. refl) b
+blocked-current f block (x ∷ up) b =
+    by_test (is_node f x) (λ v. topmost_special tag_of (cond v [] (x ∷ before (is_node f) up)) ≡ Some block → v ≡ false) (λ _ k. cc) (λ _ _. refl) b
 
-pub outer-turn-keeps : (at name : ℕ) (s t : SiteOf ℕ) (turn : code.Turn) → IsSound numbers s → outer_turn numbers at name s ≡ Goes (turn_of turn t) → IsSound numbers t
-outer-turn-keeps at name s t turn.Next k is = from-well numbers t (subst (OnGoes (WellAfter numbers numbers-tell at)) is (outer-turn-well numbers numbers-tell at name s (to-well numbers s k)))
-outer-turn-keeps at name s t turn.Ended k is = from-well numbers t (subst (OnGoes (WellAfter numbers numbers-tell at)) is (outer-turn-well numbers numbers-tell at name s (to-well numbers s k)))
+pub outer-turn-keeps : (at name : ℕ) (s t : SiteOf ℕ) (turn : code.Turn) → IsSound numbers s → outer_turn numbers at name s ≡ Goes (turn_of turn t)
+    → IsSound numbers t
+outer-turn-keeps at name s t turn.Next k is =
+    from-well numbers t (subst (OnGoes (WellAfter numbers numbers-tell at)) is (outer-turn-well numbers numbers-tell at name s (to-well numbers s k)))
+outer-turn-keeps at name s t turn.Ended k is =
+    from-well numbers t (subst (OnGoes (WellAfter numbers numbers-tell at)) is (outer-turn-well numbers numbers-tell at name s (to-well numbers s k)))
 
 -- a turn with a formatting element in scope, which is an error unless it is the current node
 module _ (at : ℕ) (f : EntryOf ℕ) (s t : SiteOf ℕ) (scope : in_scope (stops_in_scope tag_of Default) (is_node f.node) (stack s) ≡ true) where
   abbrev told : SiteOf ℕ
   told = error_unless (current_is (is_node f.node) s) TreeInBody at s
 
-  in-scope-turn : with_formatting_element numbers at f s ≡ option_map_or (with_furthest_block numbers at f told) (furthest_block tag_of f.node (stack s)) (Goes (Ended (popped_with f told)))
+  in-scope-turn : with_formatting_element numbers at f s
+      ≡ option_map_or (with_furthest_block numbers at f told) (furthest_block tag_of f.node (stack s)) (Goes (Ended (popped_with f told)))
   in-scope-turn = rw (scope-open (stops_in_scope tag_of Default) f.node (stack s) scope, scope)
-      (ap (λ l. option_map_or (with_furthest_block numbers at f told) (furthest_block tag_of f.node l) (Goes (Ended (popped_with f told)))) (unless-stack (current_is (is_node f.node) s) TreeInBody at s))
+      (ap (λ l. option_map_or (with_furthest_block numbers at f told) (furthest_block tag_of f.node l) (Goes (Ended (popped_with f told))))
+      (unless-stack (current_is (is_node f.node) s) TreeInBody at s))
 
-  pub blocked-turn : (block : OpenNode ℕ) → Goes (with_error TreeInBody at s) ≡ Goes t → furthest_block tag_of f.node (stack s) ≡ Some block → with_formatting_element numbers at f s ≡ with_furthest_block numbers at f t block
-  blocked-turn block is b =
-      let same : with_error TreeInBody at s ≡ t = cc in
+  pub blocked-turn : (block : OpenNode ℕ) → Goes (with_error TreeInBody at s) ≡ Goes t → furthest_block tag_of f.node (stack s) ≡ Some block
+      → with_formatting_element numbers at f s ≡ with_furthest_block numbers at f t block
+  blocked-turn block is b = let same : with_error TreeInBody at s ≡ t = cc in
       in-scope-turn ∙ ap (λ o. option_map_or (with_furthest_block numbers at f told) o (Goes (Ended (popped_with f told)))) b
-      ∙ ap (λ v. with_furthest_block numbers at f (error_unless v TreeInBody at s) block) (blocked-current f.node block (stack s) b) ∙ ap (λ u. with_furthest_block numbers at f u block) same
+      ∙ ap (λ v. with_furthest_block numbers at f (error_unless v TreeInBody at s) block) (blocked-current f.node block (stack s) b)
+      ∙ ap (λ u. with_furthest_block numbers at f u block) same
 
-  pub unblocked-turn : Goes told ≡ Goes t → furthest_block tag_of f.node (stack s) ≡ None → with_formatting_element numbers at f s ≡ Goes (Ended (popped_with f t))
-  unblocked-turn is b =
-      let same : told ≡ t = cc in
-      in-scope-turn ∙ ap (λ o. option_map_or (with_furthest_block numbers at f told) o (Goes (Ended (popped_with f told)))) b ∙ ap (λ u. Goes (Ended (popped_with f u))) same
+  pub unblocked-turn : Goes told ≡ Goes t → furthest_block tag_of f.node (stack s) ≡ None
+      → with_formatting_element numbers at f s ≡ Goes (Ended (popped_with f t))
+  unblocked-turn is b = let same : told ≡ t = cc in
+      in-scope-turn ∙ ap (λ o. option_map_or (with_furthest_block numbers at f told) o (Goes (Ended (popped_with f told)))) b
+      ∙ ap (λ u. Goes (Ended (popped_with f u))) same
 
-pub turn-keeps : (at name : ℕ) (s new : SiteOf ℕ) (r : Result code.Turn Refusal) → IsSound numbers s → TurnGives r new (outer_turn numbers at name s) → IfOk r (λ t. IsSound numbers new)
+pub turn-keeps : (at name : ℕ) (s new : SiteOf ℕ) (r : Result code.Turn Refusal) → IsSound numbers s → TurnGives r new (outer_turn numbers at name s)
+    → IfOk r (λ t. IsSound numbers new)
 turn-keeps at name s new (Ok t) k is = outer-turn-keeps at name s new t k is
 turn-keeps at name s new (Err e) k is = tt

@@ -1,6 +1,4 @@
-use Rattle.hadopt.proofs.Names.{◌≡◌, ◌<◌, map, ℕ, attribute_of, with_missing, AreMade, numbers, SiteOf, trees, with_trees}
-use Rattle.std.specs.Vec.Iter.{into_iter_items}
-use Rattle.hadopt.specs.declared.site.Site.TheInside.{Inside}
+use Rattle.hadopt.proofs.Names.{◌≡◌, ◌<◌, map, ℕ, attribute_of, with_missing, AreMade, numbers, SiteOf, trees, with_trees, into_iter_items, Inside}
 use Rattle.hadopt.proofs.site.Site.add_missing.Given as goal
 
 -- the value of a site

@@ -6,4 +6,6 @@ pub returns-clause-done : goal.returns-clause-done
 returns-clause-done c = search rules
 
 pub returns-clause-kept : goal.returns-clause-kept
-returns-clause-kept c = λ k stands apart. let r : Result ℕ Refusal = Ok c.in_ok-new.new in gives-kept numbers r _ _ (returns-clause-done c) (formatting-kept numbers c.args.at c.args.name _ c.args.place c.args.self.now stands apart k)
+returns-clause-kept c = λ k stands apart.
+    let r : Result ℕ Refusal = Ok c.in_ok-new.new in
+    gives-kept numbers r _ _ (returns-clause-done c) (formatting-kept numbers c.args.at c.args.name _ c.args.place c.args.self.now stands apart k)

@@ -5,10 +5,7 @@ pub returns-in-Ended-clause-kept : goal.returns-in-Ended-clause-kept
 returns-in-Ended-clause-kept c = c.in_ok-outer_turn.ensures.kept
 
 pub loop-left-preserved : goal.loop-left-preserved
-loop-left-preserved c =
-    let l = c.loop-left in
-    let next : l.left ≡ suc (l.left - 1) = omega arith in
-    let done = c.in_ok-outer_turn.ensures.done in
+loop-left-preserved c = let l = c.loop-left in let next : l.left ≡ suc (l.left - 1) = omega arith in let done = c.in_ok-outer_turn.ensures.done in
     record {
       kept = c.in_ok-outer_turn.ensures.kept;
       few = omega (arith, l.invariant.few, c.in_ok-outer_turn.ensures.few);

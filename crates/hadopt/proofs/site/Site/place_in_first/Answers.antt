@@ -10,4 +10,5 @@ pub returns-clause-stands : goal.returns-clause-stands
 returns-clause-stands c = λ k. rw (returns-clause-place c) (stands-where numbers c.args.self.now k _ (λ h. first-fits numbers (comment []) c.args.self.now h))
 
 pub last_in-requires : goal.last_in-requires
-last_in-requires c = rw (← c.self.view_is) (within c.self.inside.tree.made c.from_top.result (each-got _ (reverse c.self.inside.stack.stack) 0 c.from_top.result c.from_top.ensures (each-reverse _ c.self.inside.stack.stack c.self.invariant)))
+last_in-requires c = rw (← c.self.view_is) (within c.self.inside.tree.made c.from_top.result
+    (each-got _ (reverse c.self.inside.stack.stack) 0 c.from_top.result c.from_top.ensures (each-reverse _ c.self.inside.stack.stack c.self.invariant)))

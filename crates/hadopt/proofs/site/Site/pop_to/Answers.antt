@@ -7,4 +7,4 @@ pub invariant_of-self : goal.invariant_of-self
 invariant_of-self c = rw (c.pop_to.ensures) (each-among _ _ _ (among-after (is_named nat_eq c.args.name) c.self.inside.stack.stack) c.self.invariant)
 
 pub returns-clause-kept : goal.returns-clause-kept
-returns-clause-kept c = λ k. subst (IsSound numbers) (sym (search rules)) (fewer-kept numbers c.args.self.now _ (among-after (is_named nat_eq c.args.name) (stack c.args.self.now)) k)
+returns-clause-kept c = λ k. subst (IsSound numbers) (sym (search rules)) (fewer-kept numbers _ _ (among-after (is_named nat_eq c.args.name) _) k)

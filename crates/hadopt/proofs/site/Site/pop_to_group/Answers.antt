@@ -1,11 +1,10 @@
-use Rattle.hadopt.proofs.Names.{rules, numbers, stack, tag_of, IsSound, sym, subst}
+use Rattle.hadopt.proofs.Names.{rules, numbers, stack, tag_of, IsSound, sym, subst, is_of}
 use Rattle.hadopt.proofs.Inserting.{fewer-kept}
 use Rattle.hadopt.proofs.Lists.{each-among, among-after}
-use Rattle.hopen.specs.Scopes.{is_of}
 use Rattle.hadopt.proofs.site.Site.pop_to_group.Goals as goal
 
 pub invariant_of-self : goal.invariant_of-self
 invariant_of-self c = rw (c.pop_to_group.ensures) (each-among _ _ _ (among-after (is_of tag_of c.args.group) c.self.inside.stack.stack) c.self.invariant)
 
 pub returns-clause-kept : goal.returns-clause-kept
-returns-clause-kept c = λ k. subst (IsSound numbers) (sym (search rules)) (fewer-kept numbers c.args.self.now _ (among-after (is_of tag_of c.args.group) (stack c.args.self.now)) k)
+returns-clause-kept c = λ k. subst (IsSound numbers) (sym (search rules)) (fewer-kept numbers _ _ (among-after (is_of tag_of c.args.group) _) k)
