@@ -234,8 +234,8 @@ pub any_space : (T : DoctypeRelation) (a b : Bool) (end : ℕ) (rest text : List
 any_space T a b end rest text found errors h = record { space = h.space; after = h.after; text_is = h.text_is; spaces = h.spaces; then = h.then }
 
 -- backwards, with the errors of white space
-pub with_space : (T : Bool → DoctypeRelation) (spaced : Bool) (end : ℕ) (rest : List Placed) (found : Found) (later : List ParseError) (p : Placed) (ps : List Placed)
-    → is_space p.ch ≡ true → AfterSpace T true end rest ps found later
+pub with_space : (T : Bool → DoctypeRelation) (spaced : Bool) (end : ℕ) (rest : List Placed) (found : Found) (later : List ParseError) (p : Placed)
+    (ps : List Placed) → is_space p.ch ≡ true → AfterSpace T true end rest ps found later
     → AfterSpace T spaced end rest (p ∷ ps) found ((fault_errors None ++ null_errors (p ∷ [])) ++ later)
 with_space T spaced end rest found later p ps is h = record {
   space = p ∷ h.space;

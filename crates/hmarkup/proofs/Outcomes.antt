@@ -190,7 +190,8 @@ next_data Bogus w c h = refl
 first_data : (kind : CommentKind) (w : Progress) (text : List Placed) (errs : List ParseError) (p : Placed) → is_only_data p.ch ≡ true
     → HasReadOf kind w text errs
     → HasReadOf kind (with_data kind w (encode_utf8 (without_null p.ch))) (text ++ p ∷ []) (errs ++ error_if (is_nested_comment kind w) NestedComment p.at)
-first_data kind w text errs p h k = transport (λ i. HasReadOf kind (next_data kind w p.ch h i) (text ++ p ∷ []) (errs ++ data_error (is_nested_comment kind w) i))
+first_data kind w text errs p h k =
+    transport (λ i. HasReadOf kind (next_data kind w p.ch h i) (text ++ p ∷ []) (errs ++ data_error (is_nested_comment kind w) i))
     (rw (no_greater p.ch h) at (outcome kind w text errs p k)) where
       data_error : (nested : Bool) → char_errors (if nested then Some NestedComment else None) p ≡ error_if nested NestedComment p.at
       data_error true = simp (no_null p.ch h)
@@ -228,4 +229,5 @@ run_read at run utf8 plain some kind w text errs nested is k = let same : w.kind
       by (c ∷ cs) e = let bytes : encode_utf8_all (c ∷ cs) ≡ run = ap encode_utf8_all (sym e) ∙ encodes-chars run utf8 in
           let h : all is_only_data (placed at (c ∷ cs)) ≡ true = run_characters at (c ∷ cs) (ap (list_all is_only_data) bytes ∙ plain) in
           transport (λ i. HasReadOf kind (with_data kind w ((run_bytes at (c ∷ cs) h ∙ bytes) i)) (text ++ placed at (sym e i))
-          (errs ++ error_if (is_nested_comment kind w) NestedComment at)) (run_data kind w text errs (record { ch = c; at = at }) (placed (at + len_utf8 c) cs) h k)
+          (errs ++ error_if (is_nested_comment kind w) NestedComment at))
+          (run_data kind w text errs (record { ch = c; at = at }) (placed (at + len_utf8 c) cs) h k)

@@ -10,7 +10,8 @@ use Rattle.hmarkup.specs.declared.doctype_state.Keeps.TheVariants as keeps
 use Rattle.hmarkup.specs.declared.doctype_state.DoctypeState.TheVariants as phase
 
 -- a quote that begins an identifier
-module _ (which : Identifier) (code : ErrorCode) (After : Found → DoctypeRelation) (known : Found) (spaced : Bool) (end : ℕ) (rest : List Placed) (found : Found) where
+module _ (which : Identifier) (code : ErrorCode) (After : Found → DoctypeRelation) (known : Found) (spaced : Bool) (end : ℕ) (rest : List Placed)
+    (found : Found) where
   identifier_not_space : (text : List Placed) (errors : List ParseError) → IsIdentifier which code After known spaced end rest text found errors
       → begins is_space text ≡ false
   identifier_not_space text errors h = ap (begins is_space) h.text_is ∙ quote_not_space h.quote.ch h.is_mark

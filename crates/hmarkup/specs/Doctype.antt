@@ -67,7 +67,8 @@ abrupt_identifier Public = AbruptDoctypePublicIdentifier
 abrupt_identifier System = AbruptDoctypeSystemIdentifier
 
 -- White space, and then `Then`, which is given whether there was any.
-pub record AfterSpace (Then : Bool → DoctypeRelation) (spaced : Bool) (end : ℕ) (rest text : List Placed) (found : Found) (errors : List ParseError) : Type 0 where
+pub record AfterSpace (Then : Bool → DoctypeRelation) (spaced : Bool) (end : ℕ) (rest text : List Placed) (found : Found) (errors : List ParseError)
+    : Type 0 where
   pub space : List Placed
   pub after : List Placed
   pub text_is : text ≡ space ++ after
