@@ -1,9 +1,5 @@
 -- What a sink has been handed, and what it is handed after that.
-use Rattle.hparse.proofs.Names.{◌≡◌, List, [], ◌∷◌, ◌++◌, sym, refl, ap, subst, Result, Ok, IsPermutation, IsPermutation-append_left, IsPermutation-refl, IsPermutation-trans, ParseError, Refusal, Texts, Grows, grows_not, grows_on, Token, Tok, Item, ItemToken, ItemError, Event, Reports, tokens_in, errors_in, HandsEvents, Began, WasHanded, tokens_handed, errors_handed, TokensMean, inl, inr, ◌⊎◌}
-use Rattle.names.proofs.Handing.{Hands-append}
-use Rattle.htoken.specs.Token.{Alone, Gives, Handed, HandedMeans, Mean, WithNames}
-use Rattle.hparse.specs.Input.{ItemsMean}
-use Rattle.htoken.proofs.Fronts.{handed_means, token_kept}
+use Rattle.hparse.proofs.Names.{◌≡◌, List, [], ◌∷◌, ◌++◌, sym, refl, ap, subst, Result, Ok, IsPermutation, IsPermutation-append_left, IsPermutation-refl, IsPermutation-trans, ParseError, Refusal, Texts, Grows, grows_not, grows_on, Token, Tok, Item, ItemToken, ItemError, Event, Reports, tokens_in, errors_in, HandsEvents, Began, WasHanded, tokens_handed, errors_handed, TokensMean, inl, inr, ◌⊎◌, Hands-append, Alone, Gives, Handed, HandedMeans, Mean, WithNames, ItemsMean, handed_means, token_kept}
 
 -- one of two, or what follows from the other
 pub or_then : {A B C : Type 0} → A ⊎ B → (B → A ⊎ C) → A ⊎ C
@@ -22,7 +18,8 @@ handed_kept : (old new : Texts) → Grows old new → (t : Handed) (tok : Tok) �
 handed_kept old new grows (Alone token) tok (other, means) = (other, token_kept old new grows token tok means)
 handed_kept old new grows (WithNames table token) tok (before, tag, means) = (grows_on table old new before grows, tag, means)
 
-items_more : (old new : Texts) → Grows old new → (xs ys : List Item) (ks ls : List Tok) → ItemsMean old xs ks → ItemsMean new ys ls → ItemsMean new (xs ++ ys) (ks ++ ls)
+items_more : (old new : Texts) → Grows old new → (xs ys : List Item) (ks ls : List Tok) → ItemsMean old xs ks → ItemsMean new ys ls
+    → ItemsMean new (xs ++ ys) (ks ++ ls)
 items_more old new grows [] ys [] ls h k = k
 items_more old new grows (ItemToken t ∷ xs) ys (x ∷ ks) ls h k = (handed_kept old new grows t x h.0, items_more old new grows xs ys ks ls h.1 k)
 items_more old new grows (ItemError e ∷ xs) ys ks ls h k = items_more old new grows xs ys ks ls h k
@@ -45,24 +42,22 @@ parts_of_mean : (names : Texts) (items : List Item) (events : List Event) → Me
     → ItemsMean names items (tokens_in events) × (errors_handed items ≡ errors_in events)
 parts_of_mean names [] [] m = (tt, refl)
 parts_of_mean names (ItemToken t ∷ items) (Gives tok ∷ events) m = let rest = parts_of_mean names items events m.1 in ((m.0, rest.0), rest.1)
-parts_of_mean names (ItemError e ∷ items) (Reports f ∷ events) m =
-    let rest = parts_of_mean names items events m.1 in
-    let same : e ≡ f = m.0 in
+parts_of_mean names (ItemError e ∷ items) (Reports f ∷ events) m = let rest = parts_of_mean names items events m.1 in let same : e ≡ f = m.0 in
     (rest.0, (λ i. same i ∷ rest.1 i))
 parts_of_mean names (ItemToken t ∷ items) (Reports f ∷ events) m = absurd m.0
 parts_of_mean names (ItemError e ∷ items) (Gives tok ∷ events) m = absurd m.0
-parts_of_mean names [] (y ∷ events) m = absurd m
-parts_of_mean names (x ∷ items) [] m = absurd m
+parts_of_mean names _ _ m = absurd m
 
-module _ {S : Type 0} (gives : S → Item → Result (Unit {0}) Refusal → S → Type 0) where
+module _ {S : Type 0} {gives : S → Item → Result (Unit {0}) Refusal → S → Type 0} where
   -- nothing was handed over
   pub handed_none : (began : Began S) → WasHanded gives began.names began [] [] (Ok tt) began.sink
   handed_none began = record { grows = grows_not began.names; items = []; hands = (refl, refl); items_mean = tt; errors_are = IsPermutation-refl [] }
 
   -- events were handed over after others, and the table has grown
-  pub handed_more : (old new : Texts) (grows : Grows old new) (began : Began S) (mid now : S) (tokens : List Tok) (errors : List ParseError) (events : List Event) (answer : Result (Unit {0}) Refusal)
-      → WasHanded gives old began tokens errors (Ok tt) mid → HandsEvents gives new mid events answer now → WasHanded gives new began (tokens ++ tokens_in events) (errors ++ errors_in events) answer now
-  handed_more old new grows began mid now tokens errors events answer h (items, mean, given) = record {
+  pub handed_more : {old new : Texts} {began : Began S} {mid now : S} {tokens : List Tok} {errors : List ParseError} {answer : Result (Unit {0}) Refusal}
+      → Grows old new → (events : List Event) → WasHanded gives old began tokens errors (Ok tt) mid → HandsEvents gives new mid events answer now
+      → WasHanded gives new began (tokens ++ tokens_in events) (errors ++ errors_in events) answer now
+  handed_more {old} {new} {began} {mid} {now} {tokens} {errors} {answer} grows events h (items, mean, given) = record {
     grows = grows_on began.names old new h.grows grows;
     items = h.items ++ items;
     hands = Hands-append gives began.sink mid now h.items items answer h.hands given;
@@ -73,9 +68,10 @@ module _ {S : Type 0} (gives : S → Item → Result (Unit {0}) Refusal → S �
   }
 
   -- the same tokens and errors, the latter in another order
-  pub handed_as : (names : Texts) (began : Began S) (now : S) (tokens tokens' : List Tok) (errors errors' : List ParseError) (answer : Result (Unit {0}) Refusal) → tokens ≡ tokens' → IsPermutation errors' errors
-      → WasHanded gives names began tokens errors answer now → WasHanded gives names began tokens' errors' answer now
-  handed_as names began now tokens tokens' errors errors' answer same order h = record {
+  pub handed_as : {names : Texts} {began : Began S} {now : S} {tokens tokens' : List Tok} {errors errors' : List ParseError}
+      {answer : Result (Unit {0}) Refusal} → WasHanded gives names began tokens errors answer now → tokens ≡ tokens' → IsPermutation errors' errors
+      → WasHanded gives names began tokens' errors' answer now
+  handed_as {names} {errors = errors} {errors' = errors'} h same order = record {
     grows = h.grows;
     items = h.items;
     hands = h.hands;

@@ -1,14 +1,11 @@
 pub mod Built
 pub mod ByText
-pub mod Gathered
 pub mod Handing
 pub mod Held
-pub mod Joined
 pub mod NodesMade
 pub mod Meant
 pub mod Names
 pub mod Numbered
-pub mod OfNames
 pub mod Parsings
 pub mod Pieces
 pub mod Placed

@@ -1,6 +1,5 @@
 -- A document that is read into a sink that refuses for want of memory alone.
-use Rattle.hparse.proofs.Names.{◌≡◌, ℕ, List, [], ◌∷◌, ◌++◌, refl, Result, Ok, Err, inl, inr, ◌⊎◌, ParseError, Refusal, Memory, Texts, Hands, BadBytes, input_errors, decoded, Entities, Item, of_document, Answers, accepted, Began, IsRefusedFor, by_sink, by_tag, by_bytes, by_memory, IsTaken, as_document}
-use Rattle.hparse.specs.Answer.{refused_text, refused_bytes}
+use Rattle.hparse.proofs.Names.{◌≡◌, ℕ, List, [], ◌∷◌, ◌++◌, refl, Result, Ok, Err, inl, inr, ◌⊎◌, ParseError, Refusal, Memory, Texts, Hands, BadBytes, input_errors, decoded, Entities, Item, of_document, Answers, accepted, Began, IsRefusedFor, by_sink, by_tag, by_bytes, by_memory, IsTaken, as_document, refused_text, refused_bytes}
 use Rattle.hparse.proofs.Sorting.{in_order, order-permutes, order-sorted}
 
 -- it refuses for want of memory alone

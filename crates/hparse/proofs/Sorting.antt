@@ -1,18 +1,12 @@
 -- Each list of parse errors has an order by place and code.
-use Rattle.hparse.proofs.Names.{Bool, List, IsPermutation, ParseError, code_rank}
-use Rattle.std.specs.Cmp.{IsStrictWeakOrder}
-use Rattle.std.specs.List.Sorted.{IsSorted}
-use Rattle.std.specs.Ordering.{is_lt}
-use Rattle.std.proofs.lemmas.Cmp.{nat_cmp_total, on_total, then_total}
-use Rattle.std.proofs.lemmas.List.Sorted.{ranks_by}
-use Rattle.hserialize.proofs.Sorting.{inserted, inserted-permutes, inserted-sorted}
-use Rattle.hparse.specs.Answer.{error_cmp}
+use Rattle.hparse.proofs.Names.{Bool, List, IsPermutation, ParseError, code_rank, IsStrictWeakOrder, IsSorted, is_lt, nat_cmp_total, on_total, then_total, ranks_by, inserted, inserted-permutes, inserted-sorted, error_cmp}
 
 abbrev before : ParseError → ParseError → Bool
 before a b = is_lt (error_cmp a b)
 
 errors_order : IsStrictWeakOrder before
-errors_order = ranks_by (then_total (on_total (λ (e : ParseError). e.at) nat_cmp_total) (on_total (λ (e : ParseError). code_rank e.code) nat_cmp_total)) (λ (e : ParseError). e)
+errors_order = ranks_by (then_total (on_total (λ (e : ParseError). e.at) nat_cmp_total) (on_total (λ (e : ParseError). code_rank e.code) nat_cmp_total))
+    (λ (e : ParseError). e)
 
 abbrev pub in_order : List ParseError → List ParseError
 in_order = inserted before

@@ -1,5 +1,4 @@
-use Rattle.hparse.proofs.Names.{rules, code_rank}
-use Rattle.std.proofs.lemmas.List.Sorted.{answers_always}
+use Rattle.hparse.proofs.Names.{rules, code_rank, answers_always}
 use Rattle.hparse.proofs.collect.sort_errors.Goals as goal
 
 pub returns-clause-sorted : goal.returns-clause-sorted

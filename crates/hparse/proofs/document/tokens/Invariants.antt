@@ -1,5 +1,5 @@
 use Rattle.hparse.proofs.Names.{take, HasReadTokens}
-use Rattle.hparse.proofs.Joined.{joined}
+use Rattle.hparse.proofs.RunOf.{joined}
 use Rattle.hparse.proofs.document.tokens.Given as goal
 
 -- the pieces so far have been read

@@ -5,7 +5,8 @@ use Rattle.hparse.proofs.feeding.tell_bad.Given as goal
 abbrev pub invariant-loop-told : goal.invariant-loop-told
 invariant-loop-told g l = record {
   few : l.told ≤ l.count;
-  tells : Continues g.S.ErrorSink.gives l.fn.sink (input_errors (bad_each l.fn.at l.fn.count)) l.sink (input_errors (bad_each (l.fn.at + l.told) (l.fn.count - l.told)));
+  tells : Continues g.S.ErrorSink.gives l.fn.sink (input_errors (bad_each l.fn.at l.fn.count)) l.sink
+      (input_errors (bad_each (l.fn.at + l.told) (l.fn.count - l.told)));
 }
 
 abbrev pub decreases-loop-told : goal.decreases-loop-told

@@ -1,5 +1,4 @@
-use Rattle.hparse.proofs.Names.{◌≡◌, drop}
-use Rattle.hparse.specs.Origins.{again_laid}
+use Rattle.hparse.proofs.Names.{◌≡◌, drop, again_laid}
 use Rattle.hparse.proofs.parser.with_again.Given as goal
 
 -- to note the rest is to note all of them

@@ -3,10 +3,9 @@ use Rattle.hparse.proofs.Pieces.{refuses_bytes, refuses_text}
 use Rattle.hparse.proofs.feeding.Feeding.refuse.Goals as goal
 
 pub returns-in-Ok-clause-answer : goal.returns-in-Ok-clause-answer
-returns-in-Ok-clause-answer g c = λ m began held h.
-    subst (λ r. Refuses (gives_item g.S.ErrorSink.gives g.S.TokenSink.gives_token) m began held c.args.refusal r c.finish.new.self) (sym c.in-NotUtf8.refusal-is)
-    (refuses_bytes (gives_item g.S.ErrorSink.gives g.S.TokenSink.gives_token) m began held c.in-NotUtf8.at c.args.refusal c.finish.new.self c.in-NotUtf8.is (c.in-Ok.ensures m began held h))
+returns-in-Ok-clause-answer g c =
+    λ m began held h. subst (λ r. Refuses (gives_item g.S.ErrorSink.gives g.S.TokenSink.gives_token) m began held c.args.refusal r c.finish.new.self)
+    (sym c.in-NotUtf8.refusal-is) (refuses_bytes c.in-NotUtf8.is (c.in-Ok.ensures m began held h))
 
 pub returns-in-Err-clause-answer : goal.returns-in-Err-clause-answer
-returns-in-Err-clause-answer g c = λ m began held h.
-    refuses_text (gives_item g.S.ErrorSink.gives g.S.TokenSink.gives_token) m began held c.in-NotUtf8.at c.args.refusal c.finish.new.self c.in-NotUtf8.is c.in-Err.earlier (c.in-Err.ensures m began held h)
+returns-in-Err-clause-answer g c = λ m began held h. refuses_text c.in-NotUtf8.is (c.in-Err.ensures m began held h)

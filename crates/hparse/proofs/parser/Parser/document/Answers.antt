@@ -1,11 +1,8 @@
-use Rattle.hparse.proofs.Names.{◌∙◌, ap, sym, subst, Building, document, BeginsIn, a_document, options_of}
-use Rattle.hparse.specs.BuilderWithOrigins.{makings_if}
+use Rattle.hparse.proofs.Names.{◌∙◌, ap, sym, subst, Building, document, BeginsIn, a_document, options_of, makings_if}
 use Rattle.hparse.proofs.parser.Parser.document.Goals as goal
 
 pub returns : goal.returns
-returns c =
-    let begun = c.in_ok-begun.ensures in
-    let e = begun.builder_is ∙ c.in_ok-builder.ensures in
+returns c = let begun = c.in_ok-begun.ensures in let e = begun.builder_is ∙ c.in_ok-builder.ensures in
     record {
       accepts = begun.accepts;
       began = record { names = c.new-names.result; sink = begun.sink };

@@ -4,8 +4,9 @@ use Rattle.hparse.proofs.parser.Parser.feed.Goals as goal
 
 pub returns-in-Ok-clause-feeds : goal.returns-in-Ok-clause-feeds
 returns-in-Ok-clause-feeds c = λ opts parse_case bytes h.
-    feeds_on opts parse_case bytes c.args.self.now h c.args.piece.now _ h.accepts (c.in-Ok.ensures (manner opts parse_case) h.began bytes (has_read opts parse_case bytes c.args.self.now h _ c.deref_mut.ensures.value))
+    feeds_on h c.args.piece.now h.accepts (c.in-Ok.ensures (manner opts parse_case) h.began bytes (has_read h c.deref_mut.ensures.value))
 
 pub returns-in-Err-clause-feeds : goal.returns-in-Err-clause-feeds
-returns-in-Err-clause-feeds c = λ opts parse_case bytes h.
-    feeds_refused opts parse_case bytes c.args.self.now h c.feed.new.self c.feed.new.self.feeding.names (grows_not _) (names_of _ _ c.deref.ensures c.are_names.ensures.names) c.in-Err.refusal c.args.piece.now _ (c.in-Err.ensures (manner opts parse_case) h.began bytes (has_read opts parse_case bytes c.args.self.now h _ c.deref_mut.ensures.value))
+returns-in-Err-clause-feeds c =
+    λ opts parse_case bytes h. feeds_refused h c.feed.new.self (grows_not _) (names_of _ _ c.deref.ensures c.are_names.ensures.names) c.args.piece.now
+    (c.in-Err.ensures (manner opts parse_case) h.began bytes (has_read h c.deref_mut.ensures.value))

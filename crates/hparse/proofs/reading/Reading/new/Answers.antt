@@ -1,6 +1,4 @@
-use Rattle.hparse.proofs.Names.{[], refl, ap, sym, ◌∙◌, items, gives_item}
-use Rattle.htext.proofs.Advancing.{nothing_settled}
-use Rattle.hparse.specs.Input.{bom_of}
+use Rattle.hparse.proofs.Names.{[], refl, ap, sym, ◌∙◌, items, nothing_settled, bom_of}
 use Rattle.hparse.proofs.Handing.{handed_none}
 use Rattle.hparse.proofs.reading.Reading.new.Goals as goal
 
@@ -12,7 +10,7 @@ returns g c = record {
   holds = record {
     fed = [];
     items_are = ap items (sym (nothing_settled (bom_of c.args.start) c.args.options.now.bad_bytes c.args.options.now.limits.input));
-    was_fed = record { taken = []; has_taken = c.new-2.ensures.taken c.args.names; handed = handed_none (gives_item g.S.ErrorSink.gives g.S.TokenSink.gives_token) _; unstopped = refl };
+    was_fed = record { taken = []; has_taken = c.new-2.ensures.taken c.args.names; handed = handed_none _; unstopped = refl };
   };
   all_fed = refl;
   is_table = c.new-2.ensures.table;
