@@ -80,8 +80,7 @@ fn settled_otherwise(table: &Table, bytes: &[u8]) -> Option<(Reference, usize)>
     }
 }
 
-/// What is at an `&` before these bytes, and how many of them settle it, if they begin with a key without a `;` and the next of them
-/// with no longer one.
+/// What is at an `&` before these bytes, and how many of them settle it, if they begin with a key without a `;` and the next of them with no longer one.
 #[inline(always)]
 fn settled_by_key(table: &Table, bytes: &[u8]) -> Option<(Reference, usize)>
     ensures { IfSome result (λ it. Settles table.now bytes.now it.1 it.0) }

@@ -1,5 +1,4 @@
-//! Character references (HTML Standard, `#tokenization`, from `#character-reference-state` on): the table of named ones, and reading what
-//! follows an `&`.
+//! Character references (HTML Standard, `#tokenization`, from `#character-reference-state` on): the table of named ones, and reading what follows an `&`.
 #![tactic(auto)]
 
 mod at_once;

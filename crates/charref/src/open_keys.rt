@@ -126,8 +126,7 @@ impl OpenKeys {
         Ok(())
     }
 
-    /// A key with which the text of an `&` and these bytes begins, if one is found: the longest where few keys have its first two
-    /// letters.
+    /// A key with which the text of an `&` and these bytes begins, if one is found: the longest where few keys have its first two letters.
     #[inline(always)]
     pub(crate) fn find(&self, flat: &Flat, bytes: &[u8]) -> Option<&OpenKey>
         requires { All (IsOpenKey flat.now) self.now.read.items }

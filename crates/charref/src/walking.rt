@@ -32,8 +32,7 @@ impl<'t> Walk<'t> {
         }
     }
 
-    /// Takes the next character. Returns `None` while the reference is not known yet; once it is, the walk is over, and is
-    /// left unchanged.
+    /// Takes the next character. Returns `None` while the reference is not known yet; once it is, the walk is over, and is left unchanged.
     #[inline(always)]
     pub fn take(&mut self, ch: char) -> Option<Reference>
         ensures ended { IsSome result → self.new ≡ self.old }

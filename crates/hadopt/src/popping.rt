@@ -16,8 +16,7 @@ pub enum Passing {
     Implied(Option<NameId>),
     /// All but table and html: clear the stack back to a table context (`#clear-the-stack-back-to-a-table-context`).
     Table,
-    /// All but tbody, tfoot, thead and html: clear the stack back to a table body context
-    /// (`#clear-the-stack-back-to-a-table-body-context`).
+    /// All but tbody, tfoot, thead and html: clear the stack back to a table body context (`#clear-the-stack-back-to-a-table-body-context`).
     Body,
     /// All but tr and html: clear the stack back to a table row context (`#clear-the-stack-back-to-a-table-row-context`).
     Row,

@@ -11,8 +11,7 @@ use std::marker::Model;
 
 /// The nodes, the stack of open elements, the list of active formatting elements, whether foster parenting is on, the parse
 /// errors so far, in the order in which they were raised, and which elements were made again. No call recurses over the depth of
-/// the document. After a refusal the nodes are a tree and the open nodes are among them; of the state then only a few clauses say
-/// more.
+/// the document. After a refusal the nodes are a tree and the open nodes are among them; of the state then only a few clauses say more.
 #[derive(Drop)]
 pub struct Site {
     pub(crate) tree: Tree,

@@ -17,8 +17,7 @@ pub fn plain_builds()
     ensures { PlainBuilds }
 {}
 
-/// A plain list of trees comes back when what is written of it is parsed, in each context in which it is plain. A parser takes
-/// each such context.
+/// A plain list of trees comes back when what is written of it is parsed, in each context in which it is plain. A parser takes each such context.
 pub fn plain_comes_back()
     ensures { PlainComesBack }
 {}
@@ -50,8 +49,7 @@ pub fn one_answer()
 {}
 
 /// The bytes of a document or of a fragment are parsed in exactly one way: a tree and the errors in their order, or what they are
-/// refused for, with the place. So however the bytes are cut into pieces, what a parser gives of them is the same, unless memory runs
-/// out.
+/// refused for, with the place. So however the bytes are cut into pieces, what a parser gives of them is the same, unless memory runs out.
 #[tactic(auto, using(crate::proofs::OneAnswer::one_parse))]
 pub fn one_parse()
     ensures { OneParse }

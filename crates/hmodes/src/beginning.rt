@@ -91,8 +91,7 @@ pub(crate) fn context_mode(tag: Tag) -> Mode
 }
 
 impl<'q> TreeConstruction<'q> {
-    /// Reset the insertion mode appropriately: the mode that fits the open nodes, going up from the current one, is that of the first that
-    /// decides.
+    /// Reset the insertion mode appropriately: the mode that fits the open nodes, going up from the current one, is that of the first that decides.
     pub(crate) fn reset_mode(&self) -> Mode
         ensures { result ≡ reset_mode numbers self.now.context (stack self.now.site) }
     {

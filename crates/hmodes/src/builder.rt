@@ -20,8 +20,7 @@ use names::{Keys, NameId, Names, ParseError, Refusal};
 use std::alloc::{AllocError, Global};
 use std::marker::Model;
 
-/// Builds the tree of a document or a fragment from its tokens. After a refusal each further call returns the same refusal and
-/// changes nothing.
+/// Builds the tree of a document or a fragment from its tokens. After a refusal each further call returns the same refusal and changes nothing.
 pub struct Builder<'q> {
     state: TreeConstruction<'q>,
     root: NodeId,

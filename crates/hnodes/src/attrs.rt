@@ -52,8 +52,7 @@ impl Tree {
         }
     }
 
-    /// One more than the greatest number among the names of an element's attributes; 0 without any. Takes constant time where they are
-    /// shared.
+    /// One more than the greatest number among the names of an element's attributes; 0 without any. Takes constant time where they are shared.
     pub fn attr_names_end(&self, node: NodeId) -> usize
         requires { node < self.now.made }
         ensures { result ≡ option_map_or names_end (attributes_of node self.now.trees) 0 }

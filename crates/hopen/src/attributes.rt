@@ -65,8 +65,7 @@ fn are_all_in(alloc: Global, attrs: &[Attr], others: &[Attr]) -> Result<bool, Al
     Ok(are_found_by_name(&names, attrs, others))
 }
 
-/// Whether two lists have the same attributes, in any order. It takes as many steps as there are attributes, where few of a list have
-/// the same name.
+/// Whether two lists have the same attributes, in any order. It takes as many steps as there are attributes, where few of a list have the same name.
 pub(crate) fn are_same(alloc: Global, xs: &[Attr], ys: &[Attr]) -> Result<bool, AllocError>
     ensures { IfOk result (λ same. same ≡ same_attributes nat_eq (map attribute_of xs.now) (map attribute_of ys.now)) }
 {

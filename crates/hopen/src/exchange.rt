@@ -207,8 +207,7 @@ fn move_below(
     rewind(last, items, level);
 }
 
-/// Takes a node out and puts a new one right below another, by a pass over those from the one down to the other, where the one can
-/// pass them.
+/// Takes a node out and puts a new one right below another, by a pass over those from the one down to the other, where the one can pass them.
 pub(crate) fn exchange(
     last: &mut LastLevels,
     items: &mut Vec<KeptNode>,

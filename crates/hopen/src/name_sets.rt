@@ -22,8 +22,7 @@ pub(crate) enum NameSet {
     Group(Group),
 }
 
-/// For each set of names: which of an open node and those above it is the nearest whose name is in the set, as its number plus 1;
-/// 0 is none.
+/// For each set of names: which of an open node and those above it is the nearest whose name is in the set, as its number plus 1; 0 is none.
 #[derive(Clone, Copy, Default)]
 pub(crate) struct SetNodes {
     scope: u32,

@@ -268,8 +268,7 @@ impl OpenStack {
         last_open(&self.items[..level.saturating_sub(1)])
     }
 
-    /// The furthest block of a formatting element: the topmost special node below it (`#parsing-main-inbody`), or of all open nodes if it is not
-    /// open.
+    /// The furthest block of a formatting element: the topmost special node below it (`#parsing-main-inbody`), or of all open nodes if it is not open.
     pub fn furthest_block(&self, formatting: NodeId) -> Option<Open>
         ensures { option_map open_of result ≡ furthest_block_of tag_of formatting self.now.stack }
     {

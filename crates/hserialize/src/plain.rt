@@ -76,8 +76,7 @@ fn is_plain_node(tree: &Tree, names: &PlainNames, standing: Standing, node: Node
     }
 }
 
-/// Whether what is in a node is content of it, wherever forms are, down to the elements that insert a marker: what is in
-/// those is a region by itself.
+/// Whether what is in a node is content of it, wherever forms are, down to the elements that insert a marker: what is in those is a region by itself.
 #[tactic(auto, using(crate::proofs::Walks::goes_on, crate::proofs::Walks::fails, crate::proofs::Walks::found))]
 fn is_plain_region(tree: &Tree, names: &PlainNames, root: NodeId, top: Content) -> bool
     requires made { root < tree.now.made }

@@ -17,8 +17,7 @@ pub trait Target {
     // What a flush that succeeded makes of the writer, where it says.
     ghost flushes: { Self → Self → Type 0 } = { λ before after. ⊤ };
 
-    /// Writes a beginning of the bytes, and returns its length. None if the call failed; a call that writes none of one or
-    /// more bytes has failed.
+    /// Writes a beginning of the bytes, and returns its length. None if the call failed; a call that writes none of one or more bytes has failed.
     fn write(&mut self, bytes: &[u8]) -> Option<usize>
         ensures bytes { Writes (written self.old) (written self.new) result bytes.now }
         ensures count { failed self.new ≡ counted_by (failed self.old) result };

@@ -164,8 +164,7 @@ impl<'t> TagWalk<'t> {
         Ok(false)
     }
 
-    /// The attribute value (unquoted) state (`#attribute-value-(unquoted)-state`). Returns whether the attribute has ended before the
-    /// character.
+    /// The attribute value (unquoted) state (`#attribute-value-(unquoted)-state`). Returns whether the attribute has ended before the character.
     fn in_attribute_value_unquoted(
         &mut self,
         table: &'t Table,
@@ -184,8 +183,7 @@ impl<'t> TagWalk<'t> {
         Ok(false)
     }
 
-    /// The after attribute value (quoted) state (`#after-attribute-value-(quoted)-state`). Returns `true`: the attribute has ended before the
-    /// character.
+    /// The after attribute value (quoted) state (`#after-attribute-value-(quoted)-state`). Returns `true`: the attribute has ended before the character.
     #[inline(always)]
     fn after_attribute_value_quoted(
         &mut self,

@@ -15,8 +15,7 @@ pub(crate) enum Pending<'t> {
     Nothing,
     /// An `&` and what this walk was handed.
     Reference(Walk<'t>),
-    /// Nothing but an error, at an `&` that no key begins: it is reported if a `;` follows the alphanumerics
-    /// (`#ambiguous-ampersand-state`).
+    /// Nothing but an error, at an `&` that no key begins: it is reported if a `;` follows the alphanumerics (`#ambiguous-ampersand-state`).
     AmbiguousAmpersand,
 }
 

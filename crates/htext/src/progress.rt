@@ -131,8 +131,7 @@ impl Progress {
         }
     }
 
-    /// Hands over what replaces the next `count` bad parts of the input, which have `len` bytes in all. Where they are more than one,
-    /// each has one byte.
+    /// Hands over what replaces the next `count` bad parts of the input, which have `len` bytes in all. Where they are more than one, each has one byte.
     fn hand_bad<S: CharSink>(
         &mut self,
         count: usize,

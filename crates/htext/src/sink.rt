@@ -21,8 +21,7 @@ pub trait CharSink {
     fn take_error(&mut self, error: ParseError) -> Result<(), Refusal>
         ensures { gives self.old (InputError error) result self.new };
 
-    /// Takes a run of clean characters, the first byte of which is at `at`. It is the same as taking them one by one, up to the first
-    /// that is refused.
+    /// Takes a run of clean characters, the first byte of which is at `at`. It is the same as taking them one by one, up to the first that is refused.
     fn take_run(&mut self, run: &str, at: u64) -> Result<(), Refusal>
         requires clean { list_all is_clean (chars run.now) ≡ true }
         requires within { at + length run.now ≤ MAX_INPUT }

@@ -2,8 +2,7 @@
 
 use std::mem::size_of;
 
-/// The options of a call. A context or a list that is empty is none: a document, the core table of character references,
-/// no quirks by a list.
+/// The options of a call. A context or a list that is empty is none: a document, the core table of character references, no quirks by a list.
 #[repr(C)]
 #[derive(Clone, Copy)]
 pub struct Given<'a> {

@@ -5,8 +5,7 @@ ghost use Rattle.html_c.specs.Vocabulary.{flat_of, IsReadable, Entities, ParseOp
 
 use charref::one_flat_table;
 
-/// A law: what is given says the same options with the flat form of a table in the place of other bytes of that table, so every answer
-/// is the same.
+/// A law: what is given says the same options with the flat form of a table in the place of other bytes of that table, so every answer is the same.
 pub fn a_flat_form_says_the_same()
     ensures { (given flat : Told) (table : Entities) (opts : ParseOptions) → ReadsTableBytes given.entities.now (Ok table) → IsReadable table
         → flat.entities.now ≡ flat_of table → AreSameButTables given flat → Tells given opts ↔ Tells flat opts }

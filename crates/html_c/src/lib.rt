@@ -25,8 +25,7 @@ use crate::text::text_of;
 use crate::tree::rows_of;
 use std::alloc::Global;
 
-/// Makes the text of a task of an input, and writes it to the beginning of `output` where it fits. Returns the
-/// status, which is that of the answer.
+/// Makes the text of a task of an input, and writes it to the beginning of `output` where it fits. Returns the status, which is that of the answer.
 #[unsafe(no_mangle)]
 pub extern "C" fn jz_text(
     alloc: Global,
@@ -68,8 +67,7 @@ pub extern "C" fn jz_tree(
 }
 
 /// Makes the tree of an input, and where they are wanted its parse errors (1) and its HTML (2), and how its nodes came to be (4), by one
-/// parse; `wants` is the sum. Each part is written to the beginning of its room, where all of them fit. Returns the status, which is that of
-/// the answer.
+/// parse; `wants` is the sum. Each part is written to the beginning of its room, where all of them fit. Returns the status, which is that of the answer.
 #[unsafe(no_mangle)]
 pub extern "C" fn jz_page(
     alloc: Global,

@@ -40,8 +40,7 @@ impl<'t> Tokenizer<'t> {
         }
     }
 
-    /// End tag open state (`#end-tag-open-state`): takes the rest of an end tag without attributes, if the run has all of it. Returns its
-    /// length, or 0.
+    /// End tag open state (`#end-tag-open-state`): takes the rest of an end tag without attributes, if the run has all of it. Returns its length, or 0.
     #[inline(always)]
     fn bare_end_tag<S: TokenSink>(&mut self, names: &mut Names, run: &Run, sink: &mut S) -> Taken
         requires less { self.old.state ≡ State.TagOpen }

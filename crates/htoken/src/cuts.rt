@@ -41,14 +41,12 @@ pub fn some_answer()
     ensures { SomeAnswer }
 {}
 
-/// A whole text is cut into spans in exactly one way, so that its tokens are the same however the bytes are cut into the pieces that it
-/// comes in.
+/// A whole text is cut into spans in exactly one way, so that its tokens are the same however the bytes are cut into the pieces that it comes in.
 pub fn exactly_one_cut()
     ensures { ExactlyOneCut }
 {}
 
-/// What a sink was handed before it refused is a front of the tokens of the text, or of those before the tag that it is refused
-/// for.
+/// What a sink was handed before it refused is a front of the tokens of the text, or of those before the tag that it is refused for.
 pub fn one_front()
     ensures whole { OneFront }
     ensures of_refused { OneFrontOfRefused }

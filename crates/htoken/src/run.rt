@@ -52,8 +52,7 @@ impl<'t> Tokenizer<'t> {
         answer
     }
 
-    /// Takes the characters that replace this many bad parts of one byte each, the first of which is at `at`. It is the same as
-    /// feeding them one by one.
+    /// Takes the characters that replace this many bad parts of one byte each, the first of which is at `at`. It is the same as feeding them one by one.
     pub fn feed_bad<S: TokenSink>(
         &mut self,
         names: &mut Names,

@@ -107,8 +107,7 @@ impl<'t> Tokenizer<'t> {
         }
     }
 
-    /// Takes the next character; `at` is its first byte. Every call is handed the same table of names, which may have
-    /// grown in between, and places rise.
+    /// Takes the next character; `at` is its first byte. Every call is handed the same table of names, which may have grown in between, and places rise.
     pub fn feed_char<S: TokenSink>(
         &mut self,
         names: &mut Names,

@@ -12,8 +12,7 @@ use std::alloc::{AllocError, Global};
 const KINDS: [u8; 4] = [0x80, b'a', b'\n', b'\r'];
 
 /// The lines of a text that comes in pieces and is not kept: an index, of which each question takes at most 256 steps. It has 80 bytes
-/// for 256 of the text: two bits for each, and 16 bytes for the line and the column of the first. Since it grows as a `Vec` does, it
-/// may take twice that.
+/// for 256 of the text: two bits for each, and 16 bytes for the line and the column of the first. Since it grows as a `Vec` does, it may take twice that.
 #[derive(Drop)]
 pub struct LineIndex {
     /// How many bytes were fed.

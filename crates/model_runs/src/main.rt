@@ -1,8 +1,7 @@
 //! Makes the calls of a script. A line has a structure, a call of it, and how often it is made; its answer is a line: how often all was as
 //! it should be after it, or `refused` and why. The file stdin says what the calls are.
 //!
-//! What the calls are made on, and the room for the answers, is there before the script is read. So after its end memory is asked for by
-//! its calls alone.
+//! What the calls are made on, and the room for the answers, is there before the script is read. So after its end memory is asked for by its calls alone.
 #![tactic(auto)]
 
 mod hand;

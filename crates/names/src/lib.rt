@@ -1,5 +1,4 @@
-//! The vocabulary of the parser: names as numbers, the sets of names that its rules use, refusals, parse errors, and
-//! characters with their places.
+//! The vocabulary of the parser: names as numbers, the sets of names that its rules use, refusals, parse errors, and characters with their places.
 #![tactic(auto)]
 
 pub mod attr;
