@@ -31,7 +31,7 @@ module _ (made : ℕ) (f : Forest ℕ) (counted : AreCounted made f) where
   children-from q h = ap (λ o. trees_from o f) (first_child-is q f (is-there made f counted q h)) ∙ siblings q none (children_of q f) h refl
 
   pub first-made : (q : ℕ) → q < made → IfSome (first_child_of q f) (λ c. c < made)
-  first-made q h = grind (arith, first-inside made f counted q h)
+  first-made q h = grind (arith, first-inside counted q h)
 
   pub first-at : (n : ℕ) → n < made → IsFirst n f
   first-at n h = go (level n f (is-there made f counted n h) (at-most made f counted)) where

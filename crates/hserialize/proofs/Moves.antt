@@ -23,7 +23,7 @@ module _ (made : ℕ) (f : Forest ℕ) (counted : AreCounted made f) (root : ℕ
   first : (reach : Reach) (n c : ℕ) → n < made → first_child_of n f ≡ Some c → IsTrue (is_among root (way_up (Some n) f))
       → visits_from reach root (Some (Enter c)) f ≡ visits reach (children_of n f) ++ after_ends reach root (way_up (Some n) f) f
   first reach n c h is inside = let g = first-is (children_of n f) c (sym (first_child-is n f (is-there made f counted n h)) ∙ is) in
-      comes reach n c g.0 none g.1 g.2 h g.3 (child-inside made f counted root n c h is inside).1
+      comes reach n c g.0 none g.1 g.2 h g.3 (child-inside counted root n c h is inside).1
       ∙ ap (λ k. visits reach k ++ after_ends reach root (way_up (Some n) f) f) (sym g.3)
 
   root-among : IsTrue (is_among root (way_up (Some root) f))
@@ -65,7 +65,7 @@ module _ (made : ℕ) (f : Forest ℕ) (counted : AreCounted made f) (root : ℕ
         let up = (entered made f counted root p.parent n p.what p.left p.kids p.right low p.is).up in
         let there = comes reach p.parent m g.0 (join p.left (tree n p.what p.kids none)) g.1 g.2 low (p.is
         ∙ ap (λ R. join p.left (tree n p.what p.kids R)) g.3 ∙ sym (join-assoc p.left (tree n p.what p.kids none) (tree m g.0 g.1 g.2)))
-        (passes made f counted root n m h is (apart n root f inside) (own-inside made f counted root n inside)).1.1 in
+        (passes counted root n m h is (apart n root f inside) (own-inside made f counted root n inside)).1.1 in
         (λ i. cond (apart n root f inside i) [] (Leave n ∷ visits reach (trees_after (spot i)) ++ after_ends reach root (up i) f))
         ∙ ap (λ vs. Leave n ∷ vs) (ap (λ R. visits reach R ++ after_ends reach root (way_up (Some p.parent) f) f) g.3 ∙ sym there)
 
@@ -81,7 +81,7 @@ module _ (made : ℕ) (f : Forest ℕ) (counted : AreCounted made f) (root : ℕ
   pub climbs-inside : (n p : ℕ) → n < made → IsTrue (is_among root (ancestors_of n f)) → parent_of n f ≡ Some p → p ≢ root
       → IsTrue (is_among root (ancestors_of p f))
   climbs-inside n p h inside is other =
-      rw (is, ne_eqb p root other) at (still-inside made f counted root n h (apart n root f inside) (own-inside made f counted root n inside))
+      rw (is, ne_eqb p root other) at (still-inside counted root n h (apart n root f inside) (own-inside made f counted root n inside))
 
   pub ends : (reach : Reach) (n p : ℕ) → parent_of n f ≡ Some p → p ≡ root → after_ends reach root (way_up (parent_of n f) f) f ≡ []
   ends reach n p is same = rw (is, same, eq-eqb root root refl) refl

@@ -7,8 +7,8 @@ returns-clause-visits c = λ reach. begins c.args.tree.now.made c.args.tree.now.
     c.requires (sym c.first_child.ensures.child ∙ c.in_ok-child.was)
 
 pub returns-clause-inside : goal.returns-clause-inside
-returns-clause-inside c = let f = c.args.tree.now.trees in
-    child-inside c.args.tree.now.made f c.first_child.ensures.nodes.counted c.args.root c.args.root c.in_ok-child.child c.requires
+returns-clause-inside c =
+    child-inside c.first_child.ensures.nodes.counted c.args.root c.args.root c.in_ok-child.child c.requires
     (sym c.first_child.ensures.child ∙ c.in_ok-child.was) (rw (eq-eqb c.args.root c.args.root refl) refl)
 
 pub returns-in_err-child-clause-visits : goal.returns-in_err-child-clause-visits

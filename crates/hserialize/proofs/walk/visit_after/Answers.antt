@@ -8,7 +8,7 @@ returns-in-Some-clause-visits c = λ reach. next c.args.tree.now.made c.args.tre
 
 pub returns-in-Some-clause-inside : goal.returns-in-Some-clause-inside
 returns-in-Some-clause-inside c = let counted = c.next.ensures.nodes.counted in let f = c.args.tree.now.trees in
-    (passes c.args.tree.now.made f counted c.args.root c.args.node c.in-Some.next c.requires.made (sym c.next.ensures.sibling ∙ c.in-Some.is)
+    (passes counted c.args.root c.args.node c.in-Some.next c.requires.made (sym c.next.ensures.sibling ∙ c.in-Some.is)
     (apart c.args.node c.args.root f c.requires.inside) (own-inside c.args.tree.now.made f counted c.args.root c.args.node c.requires.inside)).1
 
 pub returns-in_err-parent-clause-visits : goal.returns-in_err-parent-clause-visits

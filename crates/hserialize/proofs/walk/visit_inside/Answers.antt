@@ -9,5 +9,5 @@ returns-in-Some-clause-visits c = descends c.args.tree.now.made c.args.tree.now.
 
 pub returns-in-Some-clause-inside : goal.returns-in-Some-clause-inside
 returns-in-Some-clause-inside c = let counted = c.first_child.ensures.nodes.counted in
-    child-inside c.args.tree.now.made c.args.tree.now.trees counted c.args.root c.args.node c.in-Some.child c.requires.made
+    child-inside counted c.args.root c.args.node c.in-Some.child c.requires.made
     (sym c.first_child.ensures.child ∙ c.in-Some.is) (own-inside c.args.tree.now.made c.args.tree.now.trees counted c.args.root c.args.node c.requires.inside)
