@@ -42,7 +42,7 @@ pub use Rattle.names.specs.Spelling.{IsSpelling}
 pub use Rattle.names.specs.Tags.{tag_of, tag_named}
 pub use Rattle.names.specs.declared.attr.Attr.{Attr}
 pub use Rattle.names.specs.declared.tag.Tag.{Tag}
-pub use Rattle.std.proofs.Common.{◌∙◌, ◌≡◌, ap, arith, length, sym, ℕ, map, List, suc, ◌<◌, refl, ◌-◌, ◌+◌, ◌≤◌, get_or, subst, drop, set, false, true, cond, ◌∷◌, [], Bool, reverse, take, Some, ◌++◌, zero, inr, inl, not, remove, eqb, ◌≢◌, ◌⊎◌, ◌&&◌, true≢false, None, ◌||◌, rules, Option, insert, leb, add-one, length-append, ltb, IsTrue, add-zero, filter, ◌==◌, take-suc, tests, IsPermutation, IsSorted, Less, drop_of_length-le, nat_cmp}
+pub use Rattle.std.proofs.Common.{◌∙◌, ◌≡◌, zero-add, ap, arith, length, sym, ℕ, map, List, suc, ◌<◌, refl, ◌-◌, ◌+◌, ◌≤◌, get_or, subst, drop, set, false, true, cond, ◌∷◌, [], Bool, reverse, take, Some, ◌++◌, zero, inr, inl, not, remove, eqb, ◌≢◌, ◌⊎◌, ◌&&◌, true≢false, None, ◌||◌, rules, Option, insert, leb, add-one, length-append, ltb, IsTrue, add-zero, filter, ◌==◌, take-suc, tests, IsPermutation, IsSorted, Less, drop_of_length-le, nat_cmp}
 pub use Rattle.std.proofs.Math.Bool.{or-false}
 pub use Rattle.std.proofs.Math.Dec.{eqb-suc-zero, eqb-zero-suc}
 pub use Rattle.std.proofs.Math.Path.{transport}

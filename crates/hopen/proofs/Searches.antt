@@ -1,5 +1,6 @@
 -- Searches that go up the open nodes, in the words of the code.
-use Rattle.hopen.proofs.Names.{◌≡◌, ℕ, suc, ◌-◌, ◌+◌, inl, inr, Bool, List, [], ◌∷◌, ◌++◌, Option, Some, None, length, drop, take, map, reverse, refl, sym, ◌∙◌, ap, arith, cases_lt, nat_eq, nat_tests, position, find, list_all, list_all-append, option_or, words, no_words, reverse-append, OpenNode, current, topmost_special, furthest_block, is_node, Tag, is_special, may_stay_open, before, after, take_nearest, drop_nearest, tag_of, somes, slots_of, stack_of, holds_one, opened_by, closing, kept_kind, sum_by, sum_by-cons, last_place, KeptNode, LastLevels, LevelsStand, position-none}
+use Rattle.hopen.proofs.Names.{◌≡◌, ℕ, suc, ◌-◌, ◌+◌, inl, inr, Bool, true, false, List, [], ◌∷◌, ◌++◌, Option, Some, None, length, drop, take, map, reverse, refl, sym, ◌∙◌, ap, arith, cases_lt, nat_eq, nat_tests, zero-add, position, find, list_all, list_all-append, option_or, words, no_words, reverse-append, OpenNode, current, topmost_special, furthest_block, is_node, Tag, is_special, may_stay_open, before, after, take_nearest, drop_nearest, tag_of, somes, slots_of, stack_of, holds_one, opened_by, closing, kept_kind, sum_by, sum_by-cons, last_place, KeptNode, LastLevels, LevelsStand, position-none, ◌&&◌, if◌then◌else◌}
+use Rattle.hopen.specs.declared.kept.Kind.TheVariants as kind
 use Rattle.hopen.proofs.OpenLevels.{placed}
 use Rattle.hopen.proofs.Somes.{after-somes, before-somes, reverse-somes}
 
@@ -16,7 +17,8 @@ module _ {N : Type 0} where
 
   pub topmost-reverse : (tag : N → Tag) (xs : List (OpenNode N)) → topmost_special tag (reverse xs) ≡ find (λ x. is_special (tag x.name)) xs
   topmost-reverse tag [] = refl
-  topmost-reverse tag (x ∷ xs) = grind (arith, reverse-append (x ∷ []) xs, topmost-append tag (reverse xs) (x ∷ []), topmost-reverse tag xs)
+  topmost-reverse tag (x ∷ xs) =
+      ap (topmost_special tag) (reverse-append (x ∷ []) xs) ∙ topmost-append tag (reverse xs) (x ∷ []) ∙ rw (topmost-reverse tag xs) (grind arith)
 
 -- the slots of a vector, by the level of the nearest node that is sought
 module _ (q : OpenNode ℕ → Bool) (items : List KeptNode) (level : ℕ) (at : level ≡ last_place (holds_one q) (slots_of items)) where
@@ -50,20 +52,31 @@ module _ {X : Type 0} (q : X → Bool) where
   last-sought : (xs : List X) → after q xs ≡ [] → find q (take (length xs - 1) xs) ≡ None
   last-sought [] e = refl
   last-sought (x ∷ []) e = refl
-  last-sought (x ∷ y ∷ ys) e = let n : suc (suc (length ys)) - 1 ≡ suc (length ys) = omega arith in let m : suc (length ys) - 1 ≡ length ys = omega arith in
-      rw n (grind (arith, last-sought (y ∷ ys), m))
+  last-sought (x ∷ y ∷ ys) e =
+      let n : suc (suc (length ys)) - 1 ≡ suc (length ys) = omega arith in let m : suc (length ys) - 1 ≡ length ys = omega arith in
+      ap (λ k. find q (take k (x ∷ y ∷ ys))) n ∙ go e (λ f. ap (λ k. find q (take k (y ∷ ys))) (sym m) ∙ last-sought (y ∷ ys) f)
+    where
+      go : after q (x ∷ y ∷ ys) ≡ [] → (after q (y ∷ ys) ≡ [] → find q (take (length ys) (y ∷ ys)) ≡ None) → find q (x ∷ take (length ys) (y ∷ ys)) ≡ None
+      go e f = grind arith
 
   before-last : (xs : List X) (z : X) (zs : List X) → after q xs ≡ z ∷ zs → find q (take (length xs - 1) xs) ≡ find q xs
   before-last [] z zs e = refl
   before-last (x ∷ []) z zs e = grind arith
-  before-last (x ∷ y ∷ ys) z zs e = let n : suc (suc (length ys)) - 1 ≡ suc (length ys) = omega arith in
-      let m : suc (length ys) - 1 ≡ length ys = omega arith in
-      rw n (grind (arith, before-last (y ∷ ys) z zs, m))
+  before-last (x ∷ y ∷ ys) z zs e =
+      let n : suc (suc (length ys)) - 1 ≡ suc (length ys) = omega arith in let m : suc (length ys) - 1 ≡ length ys = omega arith in
+      ap (λ k. find q (take k (x ∷ y ∷ ys))) n ∙ go e (λ f. ap (λ k. find q (take k (y ∷ ys))) (sym m) ∙ before-last (y ∷ ys) z zs f)
+    where
+      go : after q (x ∷ y ∷ ys) ≡ z ∷ zs → (after q (y ∷ ys) ≡ z ∷ zs → find q (take (length ys) (y ∷ ys)) ≡ find q (y ∷ ys))
+          → find q (x ∷ take (length ys) (y ∷ ys)) ≡ find q (x ∷ y ∷ ys)
+      go e f = grind arith
 
 -- where nothing is above the nearest, or where something is
 module _ (q : OpenNode ℕ → Bool) (items : List KeptNode) (level : ℕ) (at : level ≡ last_place (holds_one q) (slots_of items)) where
   pub topmost-found : current (stack_of (take (level - 1) items)) ≡ None → find q (take (length (stack_of items) - 1) (stack_of items)) ≡ None
-  topmost-found e = last-sought q (stack_of items) (grind (arith, above-level q items level at))
+  topmost-found e = go (stack_of (take (level - 1) items)) (above-level q items level at) e where
+    go : (xs : List (OpenNode ℕ)) → xs ≡ after q (stack_of items) → current xs ≡ None → find q (take (length (stack_of items) - 1) (stack_of items)) ≡ None
+    go [] is e = last-sought q (stack_of items) (sym is)
+    go (x ∷ xs) is e = absurd (grind arith)
 
   pub below-found : (x : OpenNode ℕ) → current (stack_of (take (level - 1) items)) ≡ Some x
       → find q (take (length (stack_of items) - 1) (stack_of items)) ≡ find q (stack_of items)
@@ -83,9 +96,16 @@ furthest-level n items level at = sym (topmost-reverse tag_of (somes (map opened
 closing-all : (ys : List (Option (OpenNode ℕ))) → nat_eq (sum_by closing (map kept_kind ys)) 0 ≡ list_all (λ x. may_stay_open (tag_of x.name)) (somes ys)
 closing-all [] = refl
 closing-all (None ∷ ys) = closing-all ys
-closing-all (Some y ∷ ys) = grind (arith, nat_tests, sum_by-cons closing (kept_kind (Some y)) (map kept_kind ys), closing-all ys)
+closing-all (Some y ∷ ys) =
+    ap (λ k. nat_eq k 0) (sum_by-cons closing (kept_kind (Some y)) (map kept_kind ys)) ∙ go (may_stay_open (tag_of y.name)) (closing-all ys)
+  where
+    go : (v : Bool) → nat_eq (sum_by closing (map kept_kind ys)) 0 ≡ list_all (λ x. may_stay_open (tag_of x.name)) (somes ys)
+        → nat_eq (closing (if v then kind.MayStay else kind.MustClose) + sum_by closing (map kept_kind ys)) 0
+        ≡ (v && list_all (λ x. may_stay_open (tag_of x.name)) (somes ys))
+    go true rest = ap (λ k. nat_eq k 0) (zero-add (sum_by closing (map kept_kind ys))) ∙ rest
+    go false rest = grind (arith, nat_tests)
 
 pub all-stay : (last : LastLevels) (items : List KeptNode) → LevelsStand last items
     → nat_eq last.must_close 0 ≡ list_all (λ x. may_stay_open (tag_of x.name)) (stack_of items)
 all-stay last items s = let p : OpenNode ℕ → Bool = λ x. may_stay_open (tag_of x.name) in let ys = map opened_by items in
-    grind (arith, s.closes, s.kinds, closing-all ys, reverse-somes ys, all-reverse p (somes ys))
+    ap (λ k. nat_eq k 0) (s.closes ∙ ap (sum_by closing) s.kinds) ∙ closing-all ys ∙ sym (ap (list_all p) (reverse-somes ys) ∙ all-reverse p (somes ys))
