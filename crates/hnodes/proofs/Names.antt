@@ -20,7 +20,7 @@ pub use Rattle.names.specs.declared.attr.Attr.{Attr}
 pub use Rattle.std.proofs.Common.{◌≡◌, ◌≢◌, ℕ, zero, suc, ◌+◌, ◌<◌, ◌≤◌, Bool, true, false, eqb, cond, Some, None, refl, sym, ◌∙◌, ap, subst, arith, Option, not, ◌-◌, length, get_or, List, set, Vec, Global, ltb, if◌then◌else◌, ◌⊎◌, inl, inr, nat_eq, [], ◌∷◌, ◌++◌, length-drop, map, drop, take, option_and_then, IsSome, unwrap_or, rules, string_bytes, ◌||◌, ◌↔◌, Result, Ok, Err, ◌==◌, reverse, IsErrAnd, max, add-one}
 pub use Rattle.std.proofs.lemmas.Bool.{eqb-true, eq-eqb, ne_eqb, cases_lt, lt-leb, lt-ltb, eqb-false, cases_Bool, false≢true, le-ltb, and_parts, not-true, cases_eq, false_from_ne_true, ltb-true, cond_both}
 pub use Rattle.std.proofs.lemmas.Bool.Decides.{nat_tests}
-pub use Rattle.std.proofs.lemmas.Grind.{flat_map-append}
+pub use Rattle.std.proofs.lemmas.Grind.{flat_map-append, common_steps, elements}
 pub use Rattle.std.proofs.lemmas.List.{take_all, map-append, append-nil, append_assoc, length-append, length-map, get_or-take, get_or_push, length-take, take-append-drop, take-append-le, length_push, reverse-append, length-reverse, set_split, take_at, drop_at, get_or-reverse, length-set, set-set, nil_from_length, drop-append-le, take_rest, drop-map, take-set-le, map_more}
 pub use Rattle.std.proofs.lemmas.List.Elements.{All-cons, All-head, All-nil, All-rest, filter-append, All-push, All-set, All-append, All-drop, All-filter, All-tail, All-weaker, All-same}
 pub use Rattle.std.proofs.lemmas.List.Folds.{list_any-append}

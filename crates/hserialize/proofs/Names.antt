@@ -44,7 +44,7 @@ pub use Rattle.std.proofs.KnownBytes.{Appends-trans, Appends-nil}
 pub use Rattle.std.proofs.Math.Seq.{drop-append_seam, take-append-add, take-append_seam}
 pub use Rattle.std.proofs.lemmas.Bool.{cond_both, eq-eqb, and_parts, not-true, or_right, false_from_ne_true, cases_lt, ne_eqb, eqb-true}
 pub use Rattle.std.proofs.lemmas.Bool.Decides.{Decides-eqb, nat_tests}
-pub use Rattle.std.proofs.lemmas.Grind.{flat_map-append}
+pub use Rattle.std.proofs.lemmas.Grind.{flat_map-append, common_steps, elements}
 pub use Rattle.std.proofs.lemmas.List.{append_assoc, append-nil, take_rest, get_or_default, drop-drop, nil_from_length, get_or_past, length-take}
 pub use Rattle.std.proofs.lemmas.List.Elements.{recursion_from_All, All-append, All-cons, All-nil}
 pub use Rattle.std.proofs.lemmas.List.Sorted.{ranks_by, All-permutation, sum_by-IsPermutation, sorted_far, IsPermutation-refl, IsPermutation-trans, IsPermutation-insert, IsPermutation-cons}

@@ -1,5 +1,5 @@
 use Rattle.hnodes.proofs.IndexNames.{◌≡◌, ◌+◌, ◌<◌, length, get_or, set, ap, sym, ◌∙◌, refl, arith, get_or_default, get_or-set_same, length-set, map-set_same, link_number, Link}
-use Rattle.hnodes.proofs.Names.{take-set-le}
+use Rattle.hnodes.proofs.Names.{take-set-le, common_steps}
 use Rattle.hnodes.proofs.IndexSteps.{nothing, indexed-front, indexed_to-same, says-le, more-none, more-some}
 use Rattle.hnodes.proofs.indexed_list.rewind.Goals as goal
 use Rattle.hnodes.proofs.indexed_list.rewind.Goals.{then-number-ne-NONE, else-number-ne-NONE}
@@ -35,3 +35,6 @@ loop-index-preserved c = let links = c.loop-index.links in let last = c.loop-ind
         same = c.loop-index.invariant.same;
       })
     ]
+
+pub returns-clause-indexed : goal.returns-clause-indexed
+returns-clause-indexed c = grind (arith, common_steps)

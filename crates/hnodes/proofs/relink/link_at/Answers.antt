@@ -1,3 +1,4 @@
+use Rattle.hnodes.proofs.Names.{common_steps}
 use Rattle.hnodes.proofs.IndexNames.{add-one, arith}
 use Rattle.hnodes.proofs.Relinked.{walk-before, walk-next, down-within, down-less, down-walk}
 use Rattle.hnodes.proofs.relink.link_at.Goals as goal
@@ -14,3 +15,6 @@ loop-before-preserved c = down-walk c.requires.are_indexed.indexed _ c.loop-befo
 pub returns-clause-fit : goal.returns-clause-fit
 returns-clause-fit c =
     record { before = rw (add-one c.args.index) (walk-before c.loop-before.invariant (omega arith)); next = walk-next c.loop-before.invariant (omega arith) }
+
+pub loop-before-init : goal.loop-before-init
+loop-before-init c = grind (arith, common_steps)

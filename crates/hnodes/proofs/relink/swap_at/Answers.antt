@@ -1,3 +1,4 @@
+use Rattle.hnodes.proofs.Names.{common_steps}
 use Rattle.hnodes.proofs.IndexNames.{◌≡◌, ℕ, ◌+◌, ◌<◌, set, List, length, sym, ◌∙◌, ap, arith, numbers_of, Link, group_of}
 use Rattle.hnodes.proofs.IndexSteps.{group-of}
 use Rattle.hnodes.proofs.Relinked.{length-numbers, freed, fit-down, fit-same, fit-other, exchanged}
@@ -31,3 +32,9 @@ returns-clause-numbers c = let i = c.args.index in let first : ℕ = c.take_out-
     ∙ exchanged (length c.put_in.new.last) i (numbers_of c.args.links.now) c.take_out-link.result c.take_out-second.result c.take_out-link.ensures.numbers
     c.take_out-second.ensures.numbers c.put_in.ensures.numbers (omega (arith, c.requires.within, length-numbers c.args.links.now))
     c.take_out-second.ensures.number c.take_out-link.ensures.number
+
+pub put_in-requires-2-clause-free : goal.put_in-requires-2-clause-free
+put_in-requires-2-clause-free c = grind (arith, common_steps)
+
+pub put_in-requires-clause-free : goal.put_in-requires-clause-free
+put_in-requires-clause-free c = grind (arith, common_steps)

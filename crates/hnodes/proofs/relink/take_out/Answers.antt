@@ -1,3 +1,4 @@
+use Rattle.hnodes.proofs.Names.{common_steps, elements}
 use Rattle.hnodes.proofs.IndexNames.{◌≡◌, ℕ, length, set, refl, ◌∙◌, arith, length-set, map-set, none, link_number, numbers_of, Link, group_of, ap, cond, eqb}
 use Rattle.hnodes.proofs.Relinked.{nth, rewritten, out_of, group-within, out-differ, out-before, out-within, out-fit}
 use Rattle.hnodes.proofs.relink.take_out.Goals as goal
@@ -31,3 +32,12 @@ returns-clause-fit c = λ some. let ys : numbers_of c.hint_at.new.links ≡ set 
     c.hint_at.ensures.numbers ∙ c.keep.ensures.numbers ∙ map-set link_number c.args.links.now c.args.index (gone (nth c.args.links.now c.args.index)) in
     let o = out_of c.args.last.now c.args.links.now c.args.index c.above.result c.requires.are_indexed c.requires.within c.if-link.false c.above.ensures in
     rw (c.keep.auto.last, ys) (out-fit o)
+
+pub keep-requires-clause-next : goal.keep-requires-clause-next
+keep-requires-clause-next c = grind (arith, common_steps)
+
+pub returns-then-link-clause-numbers : goal.returns-then-link-clause-numbers
+returns-then-link-clause-numbers c = grind (arith, elements)
+
+pub returns-clause-number : goal.returns-clause-number
+returns-clause-number c = grind (arith, common_steps)

@@ -84,3 +84,6 @@ returns-then-is_same c = sym (list_any_at (sought c.args.attr.now) c.args.attrs.
 pub returns : goal.returns
 returns c = let none : c.loop-ordinal.ordinal ≡ 0 = omega arith in
     ap (λ k. list_any (sought c.args.attr.now) (take k c.args.attrs.now)) (sym none) ∙ c.loop-ordinal.invariant.same ∙ seen c.args.attr.now c.args.attrs.now
+
+pub before-ordinal-requires-clause-within : goal.before-ordinal-requires-clause-within
+before-ordinal-requires-clause-within c = grind (arith, common_steps)

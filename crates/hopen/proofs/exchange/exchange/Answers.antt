@@ -102,3 +102,9 @@ move_below-requires-clause-live c = let s = (goal.at.move_below-requires-clause-
 
 pub returns-clause-items : goal.returns-clause-items
 returns-clause-items c = let s = (goal.at.returns-clause-items c).After-sink-index in grind (arith, c.move_below.ensures.items, back s, left s)
+
+pub move_below-requires-clause-within : goal.move_below-requires-clause-within
+move_below-requires-clause-within c = grind (arith, common_steps)
+
+pub move_below-requires-clause-levels : goal.move_below-requires-clause-levels
+move_below-requires-clause-levels c = grind (arith, common_steps)

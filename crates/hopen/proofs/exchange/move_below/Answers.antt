@@ -74,3 +74,6 @@ returns-clause-items c = let new = open_of c.args.new in let left : List KeptNod
     let back = written_back c.rewind.new.items _ _ _ c.rewind.ensures.same c.deref_mut.ensures.value c.deref_mut.ensures.len in
     let here = node-placed _ _ c.remove.ensures.rests.stands c.args.above level c.of_node-level.ensures (omega arith) in
     grind (arith, back, is, next, put-placed (is_node c.args.above) left (level - 1) new here, c.remove.ensures.items)
+
+pub rewind-requires-clause-levels : goal.rewind-requires-clause-levels
+rewind-requires-clause-levels c = grind (arith, common_steps)

@@ -54,3 +54,9 @@ returns c = λ x is.
     subst (λ p. IsHeldLevel names bs x.opened.name p c.loop-before.next) next
     (held-at names (slot_names (map opened_by items)) bs c.requires.linked i x.opened.name name
     (omega (arith, length-names items, length-map items same_name_of)) c.loop-before.next (λ e. sym (w.top e x is) ∙ here) (λ j e. sym (w.kept j e) ∙ here))
+
+pub bounds-items-before : goal.bounds-items-before
+bounds-items-before c = grind (arith, common_steps)
+
+pub bounds-items-before-in-loop-before : goal.bounds-items-before-in-loop-before
+bounds-items-before-in-loop-before c = grind (arith, common_steps)

@@ -1,4 +1,4 @@
-use Rattle.hopen.proofs.Names.{◌+◌, drop, ◌≡◌, ℕ, ◌<◌, List, Option, None, length, map, reverse, get_or, set, sym, ◌∙◌, ap, subst, arith, length-map, opened_by, somes, EndsOpen, OpenNode, gap, sum_by}
+use Rattle.hopen.proofs.Names.{◌+◌, drop, ◌≡◌, ℕ, ◌<◌, List, Option, None, length, map, reverse, get_or, set, sym, ◌∙◌, ap, subst, arith, length-map, opened_by, somes, EndsOpen, OpenNode, gap, sum_by, common_steps}
 use Rattle.hopen.proofs.ExchangedSlots.{drop-exchanged, drop-later, ends-exchanged, rest-exchanged}
 use Rattle.hopen.proofs.Passed.{sum-exchanged}
 use Rattle.hopen.proofs.Projected.{no-name}
@@ -40,3 +40,6 @@ loop-index-preserved c = let ys : List (Option (OpenNode ℕ)) = map opened_by c
         holes = c.swap.ensures.tables.holes ∙ w.tables.holes;
       };
     }
+
+pub swap-requires-clause-can_pass : goal.swap-requires-clause-can_pass
+swap-requires-clause-can_pass c = grind (arith, common_steps)

@@ -1,4 +1,4 @@
-use Rattle.hopen.proofs.Names.{◌≡◌, ℕ, suc, ◌+◌, ◌<◌, List, length, map, get_or, set, None, refl, sym, ◌∙◌, ap, transport, get_or_default, arith, length-map, map-set, with_items_is, exchanged, kept_kind_at, slot_names, open_of, opened_by, same_name_of, same_node_of, sets_at, IsLinked, KeepSets, KeptNode}
+use Rattle.hopen.proofs.Names.{◌≡◌, ℕ, suc, ◌+◌, ◌<◌, List, length, map, get_or, set, None, refl, sym, ◌∙◌, ap, transport, get_or_default, arith, length-map, map-set, with_items_is, exchanged, kept_kind_at, slot_names, open_of, opened_by, same_name_of, same_node_of, sets_at, IsLinked, KeepSets, KeptNode, common_steps}
 use Rattle.hopen.specs.declared.kept.Kind.TheVariants as kind
 use Rattle.hopen.proofs.Passed.{sets-exchanged, stands-passed}
 use Rattle.hopen.proofs.Projected.{opened-at, part-at, two-same, two-upper}
@@ -50,3 +50,12 @@ returns-clause-stands c = let items : List KeptNode = c.args.items.now in let al
     (opened-at items i x front first (p.upper x first).0) (opened-at items j y p.within second (p.lower y second).0) (p.upper x first).1 (map sets_at items)
     y.sets (length-map items sets_at ∙ sym many) c.requires.stands.sets (sym (part-at sets_at y.sets items j y p.within second))))
     (moved items alike i j a b x y p.order p.within first second kept_kind_at kind.Hole rest.kinds refl refl) refl
+
+pub returns-clause-tables : goal.returns-clause-tables
+returns-clause-tables c = grind (arith, common_steps)
+
+pub index_mut-requires-2 : goal.index_mut-requires-2
+index_mut-requires-2 c = grind (arith, common_steps)
+
+pub index_mut-requires : goal.index_mut-requires
+index_mut-requires c = grind (arith, common_steps)

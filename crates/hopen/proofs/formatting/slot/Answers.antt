@@ -1,4 +1,4 @@
-use Rattle.hopen.proofs.Names.{◌≡◌, ◌-◌, ◌≤◌, Some, length, arith, sym, ◌∙◌, ap, option_map, listed_items}
+use Rattle.hopen.proofs.Names.{◌≡◌, ◌-◌, ◌≤◌, Some, length, arith, sym, ◌∙◌, ap, option_map, listed_items, common_steps}
 use Rattle.hopen.proofs.Holes.{solid-end}
 use Rattle.hopen.proofs.Listed.{length-items_of}
 use Rattle.hopen.proofs.Live.{nth-solid}
@@ -12,3 +12,15 @@ returns-then-back-len c = let items = c.args.slots.now.items.items in let k = le
     (omega arith) (omega (arith, length-items_of items)) in
     let size : c.len-len.result ≡ length items = omega arith in
     ap (λ n. Some (n - 1 - c.args.back)) size ∙ sym (ap (option_map (λ up. length items - 1 - up)) nth)
+
+pub loop-index-preserved-then-not-is_hole : goal.loop-index-preserved-then-not-is_hole
+loop-index-preserved-then-not-is_hole c = grind (arith, common_steps)
+
+pub loop-index-preserved : goal.loop-index-preserved
+loop-index-preserved c = grind (arith, common_steps)
+
+pub loop-index-init : goal.loop-index-init
+loop-index-init c = grind (arith, common_steps)
+
+pub returns-then-left-eq0 : goal.returns-then-left-eq0
+returns-then-left-eq0 c = grind (arith, common_steps)

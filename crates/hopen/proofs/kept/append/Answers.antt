@@ -1,5 +1,5 @@
 use Rattle.hopen.proofs.Projected.{held, below-held, some≢none}
-use Rattle.hopen.proofs.Names.{[], ◌≡◌, ℕ, ◌+◌, List, Some, None, ◌∷◌, ◌++◌, length, map, take, get_or, get_or_append_left, get_or_push, subst, sym, ap, ◌∙◌, arith, take-append-le, length-map, map-append, length-append, sum_by, sum_by_push, gap, Rests, LevelsTo, LastLevels, opened_by, KeptNode, Open, open_of, IsBelow}
+use Rattle.hopen.proofs.Names.{[], ◌≡◌, ℕ, ◌+◌, List, Some, None, ◌∷◌, ◌++◌, length, map, take, get_or, get_or_append_left, get_or_push, subst, sym, ap, ◌∙◌, arith, take-append-le, length-map, map-append, length-append, sum_by, sum_by_push, gap, Rests, LevelsTo, LastLevels, opened_by, KeptNode, Open, open_of, IsBelow, common_steps}
 use Rattle.hopen.proofs.Standing.{below-front, levels-front, stack-more, stands-to, to-stands}
 use Rattle.hopen.proofs.Trimmed.{stack-holes, written_back}
 use Rattle.hopen.proofs.kept.append.Goals as goal
@@ -64,3 +64,6 @@ returns-clause-ok c = let items : List KeptNode = c.args.items.now.items in let 
     let back = written_back c.enter.new.items _ _ _ c.enter.ensures.same c.deref_mut.ensures.value c.deref_mut.ensures.len in
     let held = below-held c.args.last.now (map opened_by lent) (length lent) c.args.opened x below in let more = stack-more items x (open_of x.opened) held in
     grind (arith, back, c.enter.ensures.same, c.deref_mut.ensures.value, c.in_ok-push.ensures.items, more, below.opened)
+
+pub returns-clause-len : goal.returns-clause-len
+returns-clause-len c = grind (arith, common_steps)

@@ -28,3 +28,9 @@ returns-then-of_node-eq0-clause-rests c = let items : List KeptNode = c.args.ite
 pub returns-else-eq-clause-rests : goal.returns-else-eq-clause-rests
 returns-else-eq-clause-rests c = rests-replaced _ _ c.args.index (open_of c.args.new) _ _ c.requires.rests c.requires.within c.requires.live
     (c.rewrite.ensures.items ∙ ap (set (map opened_by c.args.items.now) c.args.index) c.new.ensures) c.rewrite.ensures.stands c.rewrite.ensures.tables.holes
+
+pub index_mut-requires : goal.index_mut-requires
+index_mut-requires c = grind (arith, common_steps)
+
+pub is_alone-requires : goal.is_alone-requires
+is_alone-requires c = grind (arith, common_steps)

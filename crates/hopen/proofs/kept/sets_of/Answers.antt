@@ -1,4 +1,4 @@
-use Rattle.hopen.proofs.Names.{NameSet, ◌≡◌, ◌≢◌, suc, ◌-◌, None, map, get_or, sym, ◌∙◌, arith, length-map, get_or-map, opened_by, sets_at, set_node}
+use Rattle.hopen.proofs.Names.{NameSet, ◌≡◌, ◌≢◌, suc, ◌-◌, None, map, get_or, sym, ◌∙◌, arith, length-map, get_or-map, opened_by, sets_at, set_node, common_steps}
 use Rattle.hopen.proofs.Projected.{held, seen-at, some≢none}
 use Rattle.hopen.proofs.kept.sets_of.Goals as goal
 
@@ -10,3 +10,6 @@ returns-then-not-is_hole c = let items = c.args.items.now in let i = c.loop-inde
     let here = get_or-map sets_at items (i - 1) z z.sets (omega arith) in
     let keep = λ (set : NameSet). c.requires.keep set (i - 1) (omega (arith, c.loop-index.invariant.within)) live in
     λ set. grind (arith, get_or-map (set_node set) (map sets_at items) (i - 1) z.sets 0, length-map, here, keep set, next, c.loop-index.invariant.rest set)
+
+pub loop-index-preserved : goal.loop-index-preserved
+loop-index-preserved c = grind (arith, common_steps)

@@ -1,4 +1,4 @@
-use Rattle.hopen.proofs.Names.{common_steps, ◌≡◌, ℕ, None, suc, List, ◌-◌, ◌<◌, ◌∙◌, sym, subst, arith, length, opened_by, KeptNode, LastLevels, LevelsTo}
+use Rattle.hopen.proofs.Names.{common_steps, ◌≡◌, ℕ, None, suc, List, ◌-◌, ◌<◌, ◌∙◌, sym, subst, arith, length, opened_by, KeptNode, LastLevels, LevelsTo, elements}
 use Rattle.hopen.proofs.Projected.{held, no-node, part-at}
 use Rattle.hopen.proofs.Standing.{levels-counted, levels-hole, levels-in, levels-less}
 use Rattle.hopen.proofs.kept.unwind.Goals as goal
@@ -37,3 +37,6 @@ loop-end-preserved c = let items = c.args.items.now in let i = c.loop-end.end - 
           (part-at opened_by None items i x within c.index-items-end.is ∙ no-node x (sym c.is_hole.ensures ∙ c.if-not-is_hole.false));
       tables = c.loop-end.invariant.tables;
     }
+
+pub loop-end-init : goal.loop-end-init
+loop-end-init c = grind (arith, elements)

@@ -61,3 +61,9 @@ returns-clause-stands c = let items = c.args.items.now in let i = c.args.index i
     (subst (λ l. IsLinked l (set (slot_names (map opened_by items)) i 0) (set (map same_name_of left) i 0))
     (sym (with_items_is last.names c.keep.new.names (c.keep.auto.names ∙ c.deref_mut.ensures.len))) linked)
     (ap (λ k. set last.nodes.items k 0) c.index.ensures) (ap (λ k. last.must_close - k) c.closing.ensures)
+
+pub returns-clause-tables : goal.returns-clause-tables
+returns-clause-tables c = grind (arith, common_steps)
+
+pub index_mut-requires : goal.index_mut-requires
+index_mut-requires c = grind (arith, common_steps)

@@ -57,3 +57,6 @@ returns-clause-rest c = sym (ap (drop 1) (popped _ _ _ c.in_ok-item.ensures.item
 pub returns-clause-some : goal.returns-clause-some
 returns-clause-some c = let known = room _ _ _ c.in_ok-item.ensures.items _ c.requires in let long = c.take_back.ensures.tables in
     grind (arith, common_steps, length-append)
+
+pub take_back-requires-clause-counted : goal.take_back-requires-clause-counted
+take_back-requires-clause-counted c = grind (arith, common_steps)

@@ -12,3 +12,9 @@ size of items i hashes low is = ap length is ∙ length-map (take i items) (λ x
 
 pub loop-index-preserved : goal.loop-index-preserved
 loop-index-preserved c = grind (arith, common_steps, more, ne_eqb, set-append_seam, size)
+
+pub clear-requires : goal.clear-requires
+clear-requires c = grind (arith, common_steps)
+
+pub returns : goal.returns
+returns c = grind (arith, common_steps)

@@ -1,4 +1,4 @@
-use Rattle.hserialize.proofs.Names.{error_line}
+use Rattle.hserialize.proofs.Names.{error_line, arith, common_steps}
 use Rattle.hserialize.proofs.Output.{next_lines, none_put, part_put, part_failed, passed_on}
 use Rattle.hserialize.proofs.lines.put_errors.Goals as goal
 
@@ -15,3 +15,9 @@ loop-error-preserved g c = (
       c.in_ok-put.ensures.text,
   c.in_ok-put.ensures.line,
 )
+
+pub returns : goal.returns
+returns g c = grind (arith, common_steps)
+
+pub returns-in_default : goal.returns-in_default
+returns-in_default g c = grind (arith, common_steps)

@@ -1,4 +1,4 @@
-use Rattle.hserialize.proofs.Names.{codes, refl}
+use Rattle.hserialize.proofs.Names.{codes, refl, arith, common_steps}
 use Rattle.hserialize.proofs.Output.{first_failed, last_put, part_put, part_failed, passed_on}
 use Rattle.hserialize.proofs.LineTexts.{one_level, no_level}
 use Rattle.hserialize.proofs.lines.put_line.Goals as goal
@@ -22,3 +22,6 @@ pub returns : goal.returns
 returns g c = last_put _ _ _ _ _ _ _
     (part_put _ _ _ _ _ _ _ c.loop-level.invariant (no_level c.args.depth c.loop-level.level _ c.loop-level-test.false) c.in_ok-put_parts.ensures) refl
     c.put-2.ensures
+
+pub loop-level-init : goal.loop-level-init
+loop-level-init g c = grind (arith, common_steps)

@@ -1,4 +1,4 @@
-use Rattle.hserialize.proofs.Names.{◌∙◌, sym, ap, text_of, children_of, mapped, top_content}
+use Rattle.hserialize.proofs.Names.{◌∙◌, sym, ap, text_of, children_of, mapped, top_content, arith, common_steps}
 use Rattle.hserialize.proofs.Regions.{begun, not_plain}
 use Rattle.hserialize.proofs.Walks.{fails}
 use Rattle.hserialize.proofs.plain.is_plain_list.Goals as goal
@@ -16,3 +16,6 @@ loop-visit-init c = begun c.args.names.now.table.now c.args.tree.now.made c.args
 
 pub returns-in-None-form_after : goal.returns-in-None-form_after
 returns-in-None-form_after c = fails _ _ _ c.in-Some-visit.visit _ _ c.in-Some-visit.ensures.steps c.loop-visit.invariant c.in-None-form_after.ensures
+
+pub returns : goal.returns
+returns c = grind (arith, common_steps)

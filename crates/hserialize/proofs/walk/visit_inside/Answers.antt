@@ -1,4 +1,4 @@
-use Rattle.hserialize.proofs.Names.{sym, ◌∙◌, rules, child-inside, own-inside}
+use Rattle.hserialize.proofs.Names.{sym, ◌∙◌, rules, child-inside, own-inside, arith, common_steps}
 use Rattle.hserialize.proofs.Moves.{descends}
 use Rattle.hserialize.proofs.walk.visit_inside.Goals as goal
 
@@ -11,3 +11,6 @@ pub returns-in-Some-clause-inside : goal.returns-in-Some-clause-inside
 returns-in-Some-clause-inside c = let counted = c.first_child.ensures.nodes.counted in
     child-inside counted c.args.root c.args.node c.in-Some.child c.requires.made
     (sym c.first_child.ensures.child ∙ c.in-Some.is) (own-inside c.args.tree.now.made c.args.tree.now.trees counted c.args.root c.args.node c.requires.inside)
+
+pub returns-in_default-clause-visits : goal.returns-in_default-clause-visits
+returns-in_default-clause-visits c = grind (arith, common_steps)

@@ -1,5 +1,5 @@
 use Rattle.hnodes.proofs.IndexNames.{◌≡◌, ℕ, ◌+◌, ◌-◌, ◌≤◌, ◌==◌, not, List, length, take, drop, ◌++◌, ap, sym, ◌∙◌, subst, arith, with_items_is, Bool, [], ◌∷◌, refl, take-append-le, map-append, take-map, length-take-le, length-drop, length-map, filter, none, link_number, numbers_of, Link, map, IndexedTo}
-use Rattle.hnodes.proofs.Names.{Vec, Global, length-take, take_rest, drop-map, length-append, with_items, take-append-add, take-take}
+use Rattle.hnodes.proofs.Names.{Vec, Global, length-take, take_rest, drop-map, length-append, with_items, take-append-add, take-take, common_steps, elements}
 use borrow.Rule.Slice.PartMut.{post_of}
 use Rattle.hnodes.proofs.IndexSteps.{indexed-front}
 use Rattle.hnodes.proofs.indexed_list.IndexedList.compact.Goals as goal
@@ -56,3 +56,12 @@ rewind-requires-clause-indexed c = let links : List Link = c.self.inside.links.i
     (arith, ap length front, length-take-le from c.deref.result.now in_old, length-take from c.deref_mut-4.result.now) in
     subst (λ (xs : List ℕ). IndexedTo xs c.deref_mut-4.result.now from) (sym last)
     (indexed-front from c.deref.result.now c.deref_mut-4.result.now (sym front) in_old in_new c.unwind.new.last c.unwind.ensures)
+
+pub invariant_of-self : goal.invariant_of-self
+invariant_of-self c = grind (arith, common_steps)
+
+pub rewind-requires-clause-within : goal.rewind-requires-clause-within
+rewind-requires-clause-within c = grind (arith, elements)
+
+pub offset_bounds-deref_mut-from : goal.offset_bounds-deref_mut-from
+offset_bounds-deref_mut-from c = grind (arith, common_steps)

@@ -1,3 +1,4 @@
+use Rattle.hnodes.proofs.Names.{common_steps}
 use Rattle.hnodes.proofs.IndexNames.{◌≡◌, ◌<◌, List, [], ◌∷◌, ◌++◌, suc, length, get_or, set, ap, sym, ◌∙◌, subst, arith, rules, with_items_is, length_push, get_or_default, IsIndexed, AreIndexed, Link, group_of}
 use Rattle.hnodes.proofs.IndexSteps.{indexed-push, indexed-same, last-le}
 use Rattle.hnodes.proofs.indexed_list.IndexedList.push.Goals as goal
@@ -30,3 +31,18 @@ invariant_of-self-2 c = let last = c.make_room.new.last.items in let links : Lis
     let same = indexed-same (set last group ordinal) c.deref_mut-2.result.now c.hint_at.new.links c.hint_at.ensures.numbers c.hint_at.ensures.befores
     (rw passed more) in
     subst (AreIndexed (set last group ordinal)) (sym whole) (record { indexed = same; fits = omega (arith, ap length passed, length_push links x) })
+
+pub invariant_of-self-in_err-push : goal.invariant_of-self-in_err-push
+invariant_of-self-in_err-push c = grind (arith, common_steps)
+
+pub invariant_of-self : goal.invariant_of-self
+invariant_of-self c = grind (arith, common_steps)
+
+pub returns-in_err-push-clause-err : goal.returns-in_err-push-clause-err
+returns-in_err-push-clause-err c = grind (arith, common_steps)
+
+pub returns-clause-ok : goal.returns-clause-ok
+returns-clause-ok c = grind (arith, common_steps)
+
+pub returns-in_err-make_room-clause-err : goal.returns-in_err-make_room-clause-err
+returns-in_err-make_room-clause-err c = grind (arith, common_steps)

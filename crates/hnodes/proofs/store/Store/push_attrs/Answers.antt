@@ -1,4 +1,4 @@
-use Rattle.hnodes.proofs.Names.{◌++◌, ◌∷◌, ◌≡◌, [], map, take, sym, ◌∙◌, subst, attribute_of, run_in, Adds, IfSome, IsText, map_more}
+use Rattle.hnodes.proofs.Names.{◌++◌, ◌∷◌, ◌≡◌, [], map, take, sym, ◌∙◌, subst, attribute_of, run_in, Adds, IfSome, IsText, map_more, arith, common_steps}
 use Rattle.hnodes.proofs.Rows.{adds-one, longer-trans}
 use Rattle.hnodes.proofs.store.Store.push_attrs.Goals as goal
 
@@ -16,3 +16,18 @@ loop-attr-preserved c = let texts = c.add.new.self in let attr = c.attr-item.res
             (_, c.in_ok-push.ensures.items);
       },
     )
+
+pub returns-in_err-value-clause-grown : goal.returns-in_err-value-clause-grown
+returns-in_err-value-clause-grown c = grind (arith, common_steps)
+
+pub returns-in_err-push-clause-grown : goal.returns-in_err-push-clause-grown
+returns-in_err-push-clause-grown c = grind (arith, common_steps)
+
+pub returns-in_default-clause-grown : goal.returns-in_default-clause-grown
+returns-in_default-clause-grown c = grind (arith, common_steps)
+
+pub returns-clause-added : goal.returns-clause-added
+returns-clause-added c = grind (arith, common_steps)
+
+pub returns-in_default-clause-added : goal.returns-in_default-clause-added
+returns-in_default-clause-added c = grind (arith, common_steps)

@@ -1,4 +1,4 @@
-use Rattle.hnodes.proofs.Names.{◌∙◌, sym}
+use Rattle.hnodes.proofs.Names.{◌∙◌, sym, arith, common_steps}
 use Rattle.hnodes.proofs.Opened.{opened, linked, edited, edited_view, gone, neighbours_within, inserted, has_parent}
 use Rattle.hnodes.proofs.tree.Tree.insert_before.Goals as goal
 
@@ -31,3 +31,15 @@ returns c = let o = opened c.self.inside c.args.self.now c.self.view_is c.self.i
     let g = gone c.args.child o c.requires.child_in c.requires.sibling_in c.requires.not_inside c.detach.ensures c.sibling.view_is c.index-node.ensures in
     edited_view o (inserted g c.hook.new.nodes.items c.requires.not_document c.unwrap-parent.result c.to-next.result
     (sym c.get.ensures ∙ c.unwrap-parent.ensures) c.to-next.ensures c.hook.ensures)
+
+pub hook-requires-clause-child_in : goal.hook-requires-clause-child_in
+hook-requires-clause-child_in c = grind (arith, common_steps)
+
+pub hook-requires-clause-next_in : goal.hook-requires-clause-next_in
+hook-requires-clause-next_in c = grind (arith, common_steps)
+
+pub index-node-requires : goal.index-node-requires
+index-node-requires c = grind (arith, common_steps)
+
+pub hook-requires-clause-few : goal.hook-requires-clause-few
+hook-requires-clause-few c = grind (arith, common_steps)

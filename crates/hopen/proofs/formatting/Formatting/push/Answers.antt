@@ -1,5 +1,5 @@
 use Rattle.hopen.proofs.Holes.{unless, apart}
-use Rattle.hopen.proofs.Names.{◌≡◌, ℕ, suc, ◌+◌, ◌-◌, ◌∷◌, None, Some, length, refl, ◌∙◌, ap, nat_eq, arith, EntryOf, entry, pushed, hole, item_of, listed_items, live, changed_at, set_nearest, entry_hash, ◌<◌, cond, not, Bool, List, Option, remove, option_map_or, Listed, with_room, nowhere}
+use Rattle.hopen.proofs.Names.{◌≡◌, ℕ, suc, ◌+◌, ◌-◌, ◌∷◌, None, Some, length, refl, ◌∙◌, ap, nat_eq, arith, EntryOf, entry, pushed, hole, item_of, listed_items, live, changed_at, set_nearest, entry_hash, ◌<◌, cond, not, Bool, List, Option, remove, option_map_or, Listed, with_room, nowhere, common_steps}
 use Rattle.hopen.specs.declared.entry.Slot.TheVariants as stored
 use Rattle.hopen.proofs.Listed.{items_of_last, length-items_of}
 use Rattle.hopen.proofs.formatting.Formatting.push.Goals as goal
@@ -42,3 +42,12 @@ returns-in_default-clause-ok c = let old = c.prepare.new.self.items.items in let
 pub put-requires-clause-hash : goal.put-requires-clause-hash
 put-requires-clause-hash c = let new : EntryOf ℕ = record { node = c.args.node; name = c.args.name; attrs = c.args.attrs } in
     c.in_ok-hash.ensures.hash ∙ unless c.args.name (entry_hash c.prepare.new.self.keys new) (omega arith)
+
+pub hide-requires : goal.hide-requires
+hide-requires c = grind (arith, common_steps)
+
+pub overflow_sub-index : goal.overflow_sub-index
+overflow_sub-index c = grind (arith, common_steps)
+
+pub overflow_sub-index-in-Some : goal.overflow_sub-index-in-Some
+overflow_sub-index-in-Some c = grind (arith, common_steps)

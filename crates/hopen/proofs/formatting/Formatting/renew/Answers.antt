@@ -29,3 +29,9 @@ pub returns-in_default : goal.returns-in_default
 returns-in_default c = let items = c.self.inside.slots.items.items in
     let past = nth-missing items c.self.inside.slots.listed.stored c.args.back (sym c.slot.ensures ∙ c.in_default.is) in
     grind (arith, common_steps, changed_at_past)
+
+pub renew-requires-clause-within : goal.renew-requires-clause-within
+renew-requires-clause-within c = grind (arith, common_steps)
+
+pub index-requires : goal.index-requires
+index-requires c = grind (arith, common_steps)

@@ -15,3 +15,6 @@ loop-index-preserved-then-index-to c = grind (arith, common_steps, exchanged, ex
 
 pub loop-index-preserved : goal.loop-index-preserved
 loop-index-preserved c = grind (arith, common_steps, exchanged, exchanged-down, length-remove)
+
+pub swap-requires : goal.swap-requires
+swap-requires c = grind (arith, common_steps)

@@ -1,4 +1,4 @@
-use Rattle.hopen.proofs.Names.{refl, sym, ◌∙◌, false≢true}
+use Rattle.hopen.proofs.Names.{refl, sym, ◌∙◌, false≢true, arith, common_steps}
 use Rattle.hopen.proofs.Closed.{listed-closed}
 use Rattle.hopen.proofs.slots.Slots.close.Goals as goal
 
@@ -13,3 +13,6 @@ invariant_of-self-else-is_some c = record {
   listed = listed-closed c.args.from c.args.self.now refl c.requires.within c.compact.ensures
       (λ some. absurd (false≢true (sym c.if-is_some.false ∙ c.is_some.ensures ∙ some))) c.compact-2.ensures refl c.take_holes.ensures;
 }
+
+pub compact-requires-then-is_some : goal.compact-requires-then-is_some
+compact-requires-then-is_some c = grind (arith, common_steps)

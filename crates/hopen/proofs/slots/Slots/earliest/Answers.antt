@@ -1,4 +1,4 @@
-use Rattle.hopen.proofs.Names.{◌≡◌, ℕ, suc, ◌+◌, ◌-◌, ◌<◌, ◌≤◌, None, Some, Option, List, [], IfSome, map, length, get_or, nat_eq, drop, reverse, ap, sym, ◌∙◌, subst, Bool, true, false, arith, if◌then◌else◌, option_map_or, length-map, entry_is, EntryOf, Listed, after_marker, as_entry, is_equal, item_of, listed_items, nowhere, by_hash, number_by, numbers_by, Stored, slice_get_nearest, drop_of_length-le}
+use Rattle.hopen.proofs.Names.{◌≡◌, ℕ, suc, ◌+◌, ◌-◌, ◌<◌, ◌≤◌, None, Some, Option, List, [], IfSome, map, length, get_or, nat_eq, drop, reverse, ap, sym, ◌∙◌, subst, Bool, true, false, arith, if◌then◌else◌, option_map_or, length-map, entry_is, EntryOf, Listed, after_marker, as_entry, is_equal, item_of, listed_items, nowhere, by_hash, number_by, numbers_by, Stored, slice_get_nearest, drop_of_length-le, common_steps}
 use Rattle.hopen.proofs.ByHash.{Steps, last-at, length-after, number-at, numbers-before, skips, steps, farthest, farthest-within, room-made, room-there, same-number, stored_entry-equal}
 use Rattle.hopen.proofs.Listed.{before-is, last-is, last_of, length-items_of, numbers-back, ordinal, ordinal-le}
 use Rattle.hopen.proofs.slots.Slots.earliest.Goals as goal
@@ -116,3 +116,6 @@ returns-else-equal-lt-MOST_EQUAL-clause-room c = let view = listed_items c.args.
     let last = nothing (by_hash c.args.self.now.keys) view c.loop-ordinal.ordinal (omega (arith, c.loop-ordinal.invariant.marked)) in
     let count = rw last at c.loop-ordinal.invariant.count in let first = rw last at c.loop-ordinal.invariant.first in
     grind (arith, first, room-made nat_eq new view c.loop-ordinal.equal (omega arith) (omega arith))
+
+pub before-ordinal-requires-clause-within : goal.before-ordinal-requires-clause-within
+before-ordinal-requires-clause-within c = grind (arith, common_steps)

@@ -1,4 +1,4 @@
-use Rattle.hopen.proofs.Names.{◌≡◌, ℕ, ◌<◌, ◌==◌, suc, true, List, length, set, get_or, reverse, refl, ◌∙◌, ap, arith, is_some, remove, get_or_read, length-reverse, length-set, length-remove, last_up, for_node, is_entry, item_of, item_put_before, listed_items, live, nowhere, moved_entry, stored_entry, last_place, last_place-le, Stored}
+use Rattle.hopen.proofs.Names.{◌≡◌, ℕ, ◌<◌, ◌==◌, suc, true, List, length, set, get_or, reverse, refl, ◌∙◌, ap, arith, is_some, remove, get_or_read, length-reverse, length-set, length-remove, last_up, for_node, is_entry, item_of, item_put_before, listed_items, live, nowhere, moved_entry, stored_entry, last_place, last_place-le, Stored, common_steps}
 use Rattle.hopen.specs.declared.entry.Slot.TheVariants as stored
 use Rattle.hopen.proofs.Moved.{any-same, put-same, IsPlaceWithout, listed-renewed, mark-ordinal, moved-after}
 use Rattle.hopen.proofs.slots.Slots.move_after.Goals as goal
@@ -59,3 +59,12 @@ returns c = let s = (goal.at.returns c).After-set_node in let near = c.approach-
           ∙ put-same c.args.mark (omega arith) old (items s) c.args.index near.result c.args.self.now.listed.stored near.new.self.listed.stored
           near.ensures.rest c.args.node c.requires.entry c.requires.within;
     }
+
+pub set-requires-clause-within : goal.set-requires-clause-within
+set-requires-clause-within c = grind (arith, common_steps)
+
+pub set-requires-clause-free : goal.set-requires-clause-free
+set-requires-clause-free c = grind (arith, common_steps)
+
+pub clear-requires : goal.clear-requires
+clear-requires c = grind (arith, common_steps)

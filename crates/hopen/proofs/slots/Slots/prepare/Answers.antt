@@ -1,4 +1,4 @@
-use Rattle.hopen.proofs.Names.{◌≡◌, reverse, ◌∙◌, ap, arith, nat_eq, entry_is, listed_items, by_name}
+use Rattle.hopen.proofs.Names.{◌≡◌, reverse, ◌∙◌, ap, arith, nat_eq, entry_is, listed_items, by_name, common_steps}
 use Rattle.hopen.proofs.ByHash.{room-unmet}
 use Rattle.hopen.proofs.Listed.{last-is, last_of, numbers-back, marker_ordinal, name_ordinal, find-none}
 use Rattle.hopen.proofs.slots.Slots.prepare.Goals as goal
@@ -11,3 +11,12 @@ returns-then-ordinal-last-clause-room c = let items = c.args.self.now.items.item
     let marker : c.last.result ≡ marker_ordinal (listed_items items) = c.last.ensures ∙ last-is 0 c.args.self.now.names ∙ ap (last_of 0) numbers in
     room-unmet nat_eq (entry_is c.args.new.now) (listed_items items)
     (find-none c.args.new.now.name (omega arith) (listed_items items) (omega (arith, ordinal, marker, c.if-ordinal-last.true)))
+
+pub returns-clause-within : goal.returns-clause-within
+returns-clause-within c = grind (arith, common_steps)
+
+pub returns-clause-room : goal.returns-clause-room
+returns-clause-room c = grind (arith, common_steps)
+
+pub returns-clause-hash : goal.returns-clause-hash
+returns-clause-hash c = grind (arith, common_steps)

@@ -1,4 +1,4 @@
-use Rattle.hopen.proofs.Names.{◌+◌, refl, sym, ◌∙◌, arith, false≢true}
+use Rattle.hopen.proofs.Names.{◌+◌, refl, sym, ◌∙◌, arith, false≢true, common_steps}
 use Rattle.hopen.proofs.Moved.{listed-exchanged}
 use Rattle.hopen.proofs.slots.Slots.swap.Goals as goal
 
@@ -18,3 +18,9 @@ invariant_of-self-else-is_some c = let most = c.max-self.ensures in let within =
           (λ some. absurd (false≢true (sym c.if-is_some.false ∙ c.is_some.ensures ∙ some))) c.swap-2.ensures c.swap-3.ensures.items
           (omega arith, omega arith, omega arith, omega arith);
     }
+
+pub swap-requires-then-is_some : goal.swap-requires-then-is_some
+swap-requires-then-is_some c = grind (arith, common_steps)
+
+pub swap-requires-2 : goal.swap-requires-2
+swap-requires-2 c = grind (arith, common_steps)

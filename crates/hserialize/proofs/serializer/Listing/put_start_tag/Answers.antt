@@ -1,4 +1,4 @@
-use Rattle.hserialize.proofs.Names.{◌≡◌, ◌∙◌, ℕ, List, [], ◌∷◌, ◌++◌, codes, map, sym, ap, append_assoc, flat_map, rules, text_of, Attribute, mapped_attribute, attribute_text, start_tag_text, Escaping}
+use Rattle.hserialize.proofs.Names.{◌≡◌, ◌∙◌, ℕ, List, [], ◌∷◌, ◌++◌, codes, map, sym, ap, append_assoc, flat_map, rules, text_of, Attribute, mapped_attribute, attribute_text, start_tag_text, Escaping, arith, common_steps}
 use Rattle.hserialize.proofs.Output.{none_put, part_put, part_failed, last_put, passed_on}
 use Rattle.hserialize.proofs.serializer.Listing.put_start_tag.Goals as goal
 
@@ -39,3 +39,6 @@ returns g c = let none : c.loop-name.name-iterator ≡ [] = search rules in
     last_put _ _ _ _ _ _ _ c.loop-name.invariant.2
     (ap (λ l. flat_map (attribute_text c.args.self.now.escaping) (map (mapped_attribute (text_of c.args.self.now.names.now)) l) ++ codes ">") none)
     c.put.ensures
+
+pub loop-name-init : goal.loop-name-init
+loop-name-init g c = grind (arith, common_steps)
