@@ -1,5 +1,5 @@
 -- A node and its children.
-use Rattle.hnodes.proofs.Names.{◌≡◌, ℕ, ◌+◌, ◌≤◌, true, false, eqb, cond, Option, Some, None, refl, ap, arith, eqb-true, option_map, What, Forest, none, tree, times, join, tree_at, children_of, spot_below, spot_of, first_or, last_or, first_child_of, last_child_of}
+use Rattle.hnodes.proofs.Names.{◌≡◌, ℕ, ◌+◌, ◌<◌, ◌≤◌, Bool, true, false, eqb, cond, Option, Some, None, refl, sym, ◌∙◌, ap, subst, arith, eqb-true, eq-eqb, option_map, What, Forest, none, tree, times, join, tree_at, children_of, spot_below, spot_of, first_or, last_or, first_child_of, last_child_of}
 use Rattle.hnodes.proofs.Forests.{some_inj, times-join, join-none, tree_at-absent, children_of-absent, spot_below-absent, spot_of-absent, either-none}
 
 module _ {N : Type 0} where
@@ -31,8 +31,40 @@ module _ {N : Type 0} (n q : ℕ) (w : What N) (L k R : Forest N) where
   abbrev row : Forest N
   row = join L (tree n w k R)
 
+  -- the parent is a root, or the child is in one of two forests with it
+  pub data Child (b : ℕ) (kids rest : Forest N) : Type 0 where
+    of_root : eqb b q ≡ true → eqb b n ≡ false → times n kids ≡ 1 → times n rest ≡ 0 → kids ≡ row → times q rest ≡ 0 → Child b kids rest
+    of_kids : eqb b q ≡ false → eqb b n ≡ false → times n kids ≡ 1 → times n rest ≡ 0 → times q kids ≡ 1 → children_of q kids ≡ row → times q rest ≡ 0
+        → Child b kids rest
+    of_rest : eqb b q ≡ false → times q kids ≡ 0 → eqb b n ≡ false → times n kids ≡ 0 → times n rest ≡ 1 → times q rest ≡ 1 → children_of q rest ≡ row
+        → Child b kids rest
+
   pub left-apart : times n row ≡ 1 → times n L ≡ 0
   left-apart h = grind (arith, times-join)
+
+  here : {X : Forest N} → X ≡ row → 0 < times n X
+  here e = rw (e, times-join n L (tree n w k R), eq-eqb n n refl) (omega arith)
+
+  pub child : (b : ℕ) (v : What N) (kids rest : Forest N) → times q (tree b v kids rest) ≡ 1 → times n (tree b v kids rest) ≡ 1
+      → children_of q (tree b v kids rest) ≡ row → Child b kids rest
+  child b v kids rest one once is = elim (sited q b kids rest one) [
+    | at_root i a z ↦ let j = in_left (here (is_cond i)) in of_root i j.0 j.2 j.1 (is_cond i) z
+    | in_kids i a z ↦
+        let left : children_of q kids ≡ row =
+        sym (join-none (children_of q kids)) ∙ ap (join (children_of q kids)) (sym (children_of-absent q rest z)) ∙ is_cond i in
+        let j = in_left (let h = here left in let m = children-among n q kids in omega arith) in of_kids i j.0 j.2 j.1 a left z
+    | in_rest i a z ↦
+        let right : children_of q rest ≡ row = ap (λ g. join g (children_of q rest)) (sym (children_of-absent q kids a)) ∙ is_cond i in
+        let j = in_right (let h = here right in let m = children-among n q rest in omega arith) in of_rest i a j.0 j.1 j.2 z right
+  ] where
+    is_cond : {u : Bool} → eqb b q ≡ u → cond u kids (join (children_of q kids) (children_of q rest)) ≡ row
+    is_cond e = subst (λ (u : Bool). cond u kids (join (children_of q kids) (children_of q rest)) ≡ row) e is
+
+    in_left : 0 < times n kids → (eqb b n ≡ false) × (times n rest ≡ 0) × (times n kids ≡ 1)
+    in_left h = grind arith
+
+    in_right : 0 < times n rest → (eqb b n ≡ false) × (times n kids ≡ 0) × (times n rest ≡ 1)
+    in_right h = grind arith
 
 module _ {N : Type 0} where
   -- the first child that is asked for is the first of the children

@@ -1,8 +1,7 @@
 -- Where a node is: among the roots, or among the children of a node.
-use Rattle.hnodes.proofs.Families.{sited, at_root, in_kids, in_rest}
-use Rattle.hnodes.proofs.Names.{◌≡◌, ℕ, ◌≤◌, false, eqb, refl, ◌∙◌, ap, arith, ◌⊎◌, inl, inr, eqb-true, eq-eqb, What, Forest, none, tree, times, join, tree_at, cut, change_children, children_of, put_before}
-use Rattle.hnodes.proofs.Forests.{times-join, join-none, cut-absent, tree_at-absent, children_of-absent, change_children-absent}
-use Rattle.hnodes.proofs.Families.{children-among}
+use Rattle.hnodes.proofs.Families.{sited, at_root, in_kids, in_rest, child, of_root, of_kids, of_rest, left-apart}
+use Rattle.hnodes.proofs.Names.{◌≡◌, ℕ, ◌≤◌, false, eqb, refl, sym, ◌∙◌, ap, arith, ◌⊎◌, inl, inr, eqb-true, eq-eqb, What, Forest, none, tree, times, join, tree_at, cut, change_children, children_of, put_before}
+use Rattle.hnodes.proofs.Forests.{join-none, cut-absent, tree_at-absent, children_of-absent, change_children-absent}
 
 module _ {N : Type 0} where
   pub put_before-absent : (n : ℕ) (t f : Forest N) → times n f ≡ 0 → put_before n t f ≡ f
@@ -46,28 +45,8 @@ module _ {N : Type 0} (n : ℕ) (w : What N) (k R : Forest N) where
   put-row t none h = rw (eq-eqb n n refl) refl
   put-row t (tree b v kids rest) h = grind (arith, put-row t rest, put_before-absent)
 
-  module _ (q : ℕ) (L : Forest N) where
-    cut-below : (f : Forest N) → times q f ≡ 1 → times n f ≡ 1 → children_of q f ≡ join L (tree n w k R) → cut n f ≡ change_children q (λ _. join L R) f
-    cut-below none one once is = refl
-    cut-below (tree b v kids rest) one once is = let i = ap (times n) is in let j = times-join n L (tree n w k R) in let c = children-among n q kids in
-        let d = children-among n q rest in let e = times-join n (children_of q kids) (children_of q rest) in
-        grind (arith, cut-below kids, cut-below rest, cut-row L, cut-absent, change_children-absent, join-none, children_of-absent, times-join)
-
-    tree-below : (f : Forest N) → times q f ≡ 1 → times n f ≡ 1 → children_of q f ≡ join L (tree n w k R) → tree_at n f ≡ tree n w k none
-    tree-below none one once is = absurd (omega arith)
-    tree-below (tree b v kids rest) one once is = let i = ap (times n) is in let j = times-join n L (tree n w k R) in let c = children-among n q kids in
-        let d = children-among n q rest in let e = times-join n (children_of q kids) (children_of q rest) in
-        grind (arith, tree-below kids, tree-below rest, tree-row L, tree_at-absent, join-none, children_of-absent, times-join)
-
-    put-below : (t f : Forest N) → times q f ≡ 1 → times n f ≡ 1 → children_of q f ≡ join L (tree n w k R)
-        → put_before n t f ≡ change_children q (λ _. join L (join t (tree n w k R))) f
-    put-below t none one once is = refl
-    put-below t (tree b v kids rest) one once is = let i = ap (times n) is in let j = times-join n L (tree n w k R) in let c = children-among n q kids in
-        let d = children-among n q rest in let e = times-join n (children_of q kids) (children_of q rest) in
-        grind (arith, put-below t kids, put-below t rest, put-row t L, put_before-absent, change_children-absent, join-none, children_of-absent, times-join)
-
   here-is : (L f : Forest N) → times n f ≡ 1 → f ≡ join L (tree n w k R) → Here n f
-  here-is L f one is = let apart : times n L ≡ 0 = grind (arith, times-join) in
+  here-is L f one is = let apart = left-apart n n w L k R (ap (times n) (sym is) ∙ one) in
       record { left = L; what = w; kids = k; right = R; is = is; cut_is = ap (cut n) is ∙ cut-row L apart; tree_is = ap (tree_at n) is ∙ tree-row L apart }
 
   -- and at one of the children of q
@@ -78,8 +57,30 @@ module _ {N : Type 0} (n : ℕ) (w : What N) (k R : Forest N) where
       pub put_is : (t : Forest N) → put_before n t f ≡ change_children q (λ _. join L (join t (tree n w k R))) f
 
     pub edits-below : (f : Forest N) → times q f ≡ 1 → times n f ≡ 1 → children_of q f ≡ join L (tree n w k R) → EditsBelow f
-    edits-below f one once is =
-        record { cut_is = cut-below q L f one once is; tree_is = tree-below q L f one once is; put_is = λ t. put-below q L t f one once is }
+    edits-below none one once is = absurd (omega arith)
+    edits-below (tree b v kids rest) one once is = elim (child n q w L k R b v kids rest one once is) [
+      | of_root i j o y same z ↦
+          let apart = left-apart n q w L k R (ap (times n) (sym same) ∙ o) in
+          record {
+            cut_is = rw (j, i, cut-absent n rest y, same, cut-row L apart) refl;
+            tree_is = rw (j, tree_at-absent n rest y, same, tree-row L apart) refl;
+            put_is = λ t. rw (j, i, put_before-absent n t rest y, same, put-row t L apart) refl;
+          }
+      | of_kids i j o y a same z ↦
+          let s = edits-below kids a o same in
+          record {
+            cut_is = rw (j, i, s.cut_is, cut-absent n rest y, change_children-absent q (λ _. join L R) rest z) refl;
+            tree_is = rw (j, s.tree_is, tree_at-absent n rest y) refl;
+            put_is = λ t. rw (j, i, s.put_is t, put_before-absent n t rest y, change_children-absent q (λ _. join L (join t (tree n w k R))) rest z) refl;
+          }
+      | of_rest i t j o y a same ↦
+          let s = edits-below rest a y same in
+          record {
+            cut_is = rw (j, i, s.cut_is, cut-absent n kids o, change_children-absent q (λ _. join L R) kids t) refl;
+            tree_is = rw (j, s.tree_is, tree_at-absent n kids o) refl;
+            put_is = λ u. rw (j, i, s.put_is u, put_before-absent n u kids o, change_children-absent q (λ _. join L (join u (tree n w k R))) kids t) refl;
+          }
+    ]
 
     below-is : (f : Forest N) → times q f ≡ 1 → times n f ≡ 1 → children_of q f ≡ join L (tree n w k R) → Below n f
     below-is f one once is = let e = edits-below f one once is in
