@@ -1,4 +1,4 @@
-use Rattle.htoken.proofs.Names.{◌+◌, ◌-◌, ◌≡◌, ◌<◌, List, false, arith, rules, ◌∙◌, sym, subst, ap, Err, Placed, grows_not, grows_on, is_script, replacement_run, gives_item, Takes, err_is}
+use Rattle.htoken.proofs.Names.{◌+◌, ◌-◌, ◌≡◌, ◌<◌, List, false, arith, rules, ◌∙◌, sym, subst, ap, Err, Placed, grows_not, grows_on, is_script, replacement_run, gives_item, Takes, err_is, common_steps}
 use Rattle.htoken.specs.declared.state.State.TheVariants as state
 use Rattle.htoken.proofs.Fronts.{takes_nothing, part_taken, refused_any, refused_longer, IsCalm, taken_kept, taken_now, bad_taken, replaced_more}
 use Rattle.htoken.proofs.tokenizer.Tokenizer.feed_bad.Goals as goal
@@ -48,3 +48,6 @@ returns-in-Err-clause-takes g c = λ table start before text taken grows h.
     let here = taken_now c.args.names.now (subst IsCalm (sym may.1) tt) grows h in
     refused_any (bad_taken g.S.ErrorSink.gives g.S.TokenSink.gives_token table start c.args.names.now text taken c.args.self.now here may.1 may.2 _ _ may.0
     (omega (arith, c.requires.within)) _ _ _ c.in-Err.ensures)
+
+pub returns-in_err-feed_char-clause-grows : goal.returns-in_err-feed_char-clause-grows
+returns-in_err-feed_char-clause-grows g c = grind (arith, common_steps)

@@ -1,4 +1,4 @@
-use Rattle.htoken.proofs.Names.{◌++◌, ◌∙◌, [], List, refl, sym, ap, subst, take, chars, placed, Placed, grows_on, after_last, err_is}
+use Rattle.htoken.proofs.Names.{◌++◌, ◌∙◌, [], List, refl, sym, ap, subst, take, chars, placed, Placed, grows_on, after_last, err_is, arith, common_steps}
 use Rattle.htoken.proofs.Fronts.{cut_refused, placed_same, IsCalm, taken_now, tag_finishes, tag_goes_on, tag_read, tag_stopped}
 use Rattle.htoken.proofs.tokenizer.Tokenizer.part_of_tag.Goals as goal
 
@@ -43,3 +43,12 @@ returns-in_err-end_tag-clause-takes g c =
     c.in_ok-count.ensures.kind c.take_run.new.names c.end_tag.ensures.grows (rw c.if-ended.true at
     (c.in_ok-count.ensures.takes _ (tag_read g.S.ErrorSink.gives g.S.TokenSink.gives_token c.take_run.new.names c.take_run.ensures.grows k c.requires.tag [])))
     _ _ _ _ c.in_err-end_tag.ensures.tag))
+
+pub returns-then-ended-clause-grows : goal.returns-then-ended-clause-grows
+returns-then-ended-clause-grows g c = grind (arith, common_steps)
+
+pub returns-in_err-end_tag-clause-grows : goal.returns-in_err-end_tag-clause-grows
+returns-in_err-end_tag-clause-grows g c = grind (arith, common_steps)
+
+pub returns-clause-few : goal.returns-clause-few
+returns-clause-few g c = grind (arith, common_steps)

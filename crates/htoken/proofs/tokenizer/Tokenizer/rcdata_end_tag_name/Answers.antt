@@ -1,4 +1,4 @@
-use Rattle.htoken.proofs.Names.{◌≡◌, false, List, rules, ◌∷◌, ◌++◌, refl, sym, ◌∙◌, string_bytes, Placed, name_ends, gives_item, err_is}
+use Rattle.htoken.proofs.Names.{◌≡◌, false, List, rules, ◌∷◌, ◌++◌, refl, sym, ◌∙◌, string_bytes, Placed, name_ends, gives_item, err_is, arith, common_steps}
 use Rattle.htoken.proofs.Going.{takes_after, ran_out_of}
 use Rattle.htoken.proofs.InTag.{reads_kept}
 use Rattle.htoken.proofs.InRaw.{letter_held, differs_here, goes_past_here, end_tag_begins, name_given, name_refused}
@@ -45,3 +45,6 @@ returns-in_err-give_held-in_default-clause-takes g c =
           (sym c.expected.ensures ∙ w.in-None.is) (sym w.ends_name.ensures ∙ w.if-ends_name.false)
     ] in
     name_refused _ k c.args.solidus c.requires other _ _ _ _ (c.in_err-give_held-in_default.ensures.handed c.args.names.now))
+
+pub returns-in_err-push-in-Some-clause-grows : goal.returns-in_err-push-in-Some-clause-grows
+returns-in_err-push-in-Some-clause-grows g c = grind (arith, common_steps)

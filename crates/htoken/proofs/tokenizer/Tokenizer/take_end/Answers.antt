@@ -1,4 +1,4 @@
-use Rattle.htoken.proofs.Names.{false, is_ascii, [], ◌∷◌, ◌<◌, ◌+◌, ◌++◌, List, ℕ, length, drop, take, refl, sym, ◌∙◌, subst, arith, Err, chars, Placed, placed, IsCut, cut_more, first_placed, gives_item, Reads, Takes, err_is, is_text_byte, slice_index, get_or-drop, ap, ◌≡◌}
+use Rattle.htoken.proofs.Names.{false, is_ascii, [], ◌∷◌, ◌<◌, ◌+◌, ◌++◌, List, ℕ, length, drop, take, refl, sym, ◌∙◌, subst, arith, Err, chars, Placed, placed, IsCut, cut_more, first_placed, gives_item, Reads, Takes, err_is, is_text_byte, slice_index, get_or-drop, ap, ◌≡◌, common_steps}
 use Rattle.htoken.proofs.Fronts.{cut_refused, placed_same}
 use Rattle.htoken.proofs.InText.{all_taken, length_left, then_refused, then_taken}
 use Rattle.htoken.proofs.WithReferences.{whole_of, ascii_first, ascii_next, mark_ascii, whole_cut}
@@ -83,3 +83,9 @@ returns-clause-few g c = let run = c.args.run.now.text.now in let count = c.args
     let less : count < length run = omega (arith, c.if-count-run.false, c.requires.ends.cut.within) in
     let first = first_here run c.args.run.now.at count c.at_byte.result c.requires.ends.cut less c.at_byte.ensures (c.requires.ends.ends less) in
     (omega arith, cut_more count 1 run c.requires.ends.cut first.2)
+
+pub overflow_add-result-in-Some : goal.overflow_add-result-in-Some
+overflow_add-result-in-Some g c = grind (arith, common_steps)
+
+pub overflow_add-result : goal.overflow_add-result
+overflow_add-result g c = grind (arith, common_steps)

@@ -1,4 +1,4 @@
-use Rattle.htoken.proofs.Names.{arith, subst, take_all, chars-nil, grows_not, grows_on, IsCut, cut_more, err_is, IsUtf8-nil, rules}
+use Rattle.htoken.proofs.Names.{arith, subst, take_all, chars-nil, grows_not, grows_on, IsCut, cut_more, err_is, IsUtf8-nil, rules, common_steps}
 use Rattle.htoken.proofs.Fronts.{takes_nothing, cut_more_taken, cut_more_refused, taken_kept}
 use Rattle.htoken.proofs.tokenizer.Tokenizer.take_parts.Goals as goal
 
@@ -31,3 +31,6 @@ returns-in_err-more-clause-takes g c = let so = c.loop-count.invariant in
 pub returns-clause-takes : goal.returns-clause-takes
 returns-clause-takes g c = λ table start before text taken grows h.
     rw (← (take_all c.loop-count.count c.args.run.now.text.now (omega arith))) (c.loop-count.invariant.takes table start before text taken grows h)
+
+pub returns-in_err-more-clause-grows : goal.returns-in_err-more-clause-grows
+returns-in_err-more-clause-grows g c = grind (arith, common_steps)

@@ -1,4 +1,4 @@
-use Rattle.htoken.proofs.Names.{◌≡◌, ◌+◌, Bool, [], drop, sym, refl, subst, arith, Ok, Tokenizer, gives_item, err_is, GivesTextWithReferences}
+use Rattle.htoken.proofs.Names.{◌≡◌, ◌+◌, Bool, [], drop, sym, refl, subst, arith, Ok, Tokenizer, gives_item, err_is, GivesTextWithReferences, common_steps}
 use Rattle.htoken.proofs.InText.{front_moved, with_references_given, with_references_not, with_references_out}
 use Rattle.htoken.proofs.WithReferences.{may_of, front_here, front_later, front_none, gathered_with_references}
 use Rattle.htoken.proofs.tokenizer.Tokenizer.take_references.Goals as goal
@@ -66,3 +66,9 @@ returns-clause-takes g c =
     (with_references_given front c.requires.ends.cut c.requires.text may (front_none c.args.self.now.table.now c.args.self.now.kind
     (drop c.args.front.count c.args.run.text.now) (c.args.run.at + c.args.front.count) c.requires.ends.cut.back) new refl c.give.new.sink
     ([], tt, (refl, sym same))))
+
+pub take_end-requires-2-clause-some : goal.take_end-requires-2-clause-some
+take_end-requires-2-clause-some g c = grind (arith, common_steps)
+
+pub take_end-requires-clause-some : goal.take_end-requires-clause-some
+take_end-requires-clause-some g c = grind (arith, common_steps)

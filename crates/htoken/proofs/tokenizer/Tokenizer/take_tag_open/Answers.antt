@@ -1,4 +1,4 @@
-use Rattle.htoken.proofs.Names.{gives_item, sym, subst, arith, rules, [], named_within, named_plain}
+use Rattle.htoken.proofs.Names.{gives_item, sym, subst, arith, rules, [], named_within, named_plain, common_steps}
 use Rattle.htoken.proofs.AtOnce.{memory_part, name_begins, nothing_taken, plain_cut}
 use Rattle.htoken.proofs.Fronts.{IsCalm, taken_kept, taken_now}
 use Rattle.htoken.proofs.tokenizer.Tokenizer.take_tag_open.Goals as goal
@@ -24,3 +24,6 @@ pub returns-in_err-begin_start_tag-in_default-2-clause-takes : goal.returns-in_e
 returns-in_err-begin_start_tag-in_default-2-clause-takes g c =
     λ table start before text taken grows h. memory_part (taken_now c.args.names.now (subst IsCalm (sym c.requires.less) tt) grows h)
     (gives_item g.S.ErrorSink.gives g.S.TokenSink.gives_token) c.args.run.now.at c.args.run.now.text.now c.args.sink.now _ _ (search rules)
+
+pub returns-in_err-begin_start_tag-in_default-2-clause-grows : goal.returns-in_err-begin_start_tag-in_default-2-clause-grows
+returns-in_err-begin_start_tag-in_default-2-clause-grows g c = grind (arith, common_steps)

@@ -1,4 +1,4 @@
-use Rattle.htoken.proofs.Names.{refl, err_is, rules}
+use Rattle.htoken.proofs.Names.{refl, err_is, rules, arith, common_steps}
 use Rattle.htoken.proofs.WithReferences.{whole_ends, whole_refused, whole_then}
 use Rattle.htoken.proofs.tokenizer.Tokenizer.take_whole.Goals as goal
 
@@ -13,3 +13,9 @@ returns-then-whole-eq0 g c = λ table start names text taken h. whole_ends _ c.a
 pub returns : goal.returns
 returns g c = λ table start names text taken h. whole_then _ c.args.run.now.at (search rules) c.requires.whole c.requires.text h _ refl c.after-self.ensures
     c.if-whole-eq0.false _ c.at_byte.ensures _ _ _ _ _ (c.in_ok-give_piece.ensures names) (c.in_text.ensures table start names)
+
+pub at_byte-requires : goal.at_byte-requires
+at_byte-requires g c = grind (arith, common_steps)
+
+pub overflow_add-run : goal.overflow_add-run
+overflow_add-run g c = grind (arith, common_steps)

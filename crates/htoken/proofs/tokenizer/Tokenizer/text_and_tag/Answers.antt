@@ -1,4 +1,4 @@
-use Rattle.htoken.proofs.Names.{subst, arith, grows_not, IsCut, cut_more, err_is}
+use Rattle.htoken.proofs.Names.{subst, arith, grows_not, IsCut, cut_more, err_is, common_steps}
 use Rattle.htoken.proofs.Fronts.{cut_more_taken, cut_more_refused}
 use Rattle.htoken.proofs.tokenizer.Tokenizer.text_and_tag.Goals as goal
 
@@ -24,3 +24,6 @@ returns-then-count-run-clause-takes g c = c.in_ok-count.ensures.takes c.args.nam
 pub returns-clause-few : goal.returns-clause-few
 returns-clause-few g c = let again = subst (IsCut c.in_ok-more.more) c.after.ensures.text c.in_ok-more.ensures.cut in
     (omega (arith, c.in_ok-count.ensures.few.0), cut_more c.in_ok-count.count c.in_ok-more.more c.args.run.now.text.now c.in_ok-count.ensures.few.1 again)
+
+pub take_tag_open-requires-clause-some : goal.take_tag_open-requires-clause-some
+take_tag_open-requires-clause-some g c = grind (arith, common_steps)

@@ -1,4 +1,4 @@
-use Rattle.htoken.proofs.Names.{IsGathered, ◌+◌, arith, clean_rest, IsCharBoundary-from_drop}
+use Rattle.htoken.proofs.Names.{IsGathered, ◌+◌, arith, clean_rest, IsCharBoundary-from_drop, common_steps}
 use Rattle.htoken.proofs.InText.{bare_cut_of}
 use Rattle.htoken.proofs.WithReferences.{gathered_more, few_left}
 use Rattle.htoken.proofs.with_references.TextWithReferences.gather_from.Goals as goal
@@ -54,3 +54,12 @@ loop-count-preserved c = let here = added (goal.at.loop-count-preserved c).In_ok
 
 pub returns-in-Open-clause-gathered : goal.returns-in-Open-clause-gathered
 returns-in-Open-clause-gathered c = added (goal.at.returns-in-Open-clause-gathered c).In_ok-count
+
+pub add_bare-requires-clause-within : goal.add_bare-requires-clause-within
+add_bare-requires-clause-within c = grind (arith, common_steps)
+
+pub add_reference-requires-clause-within : goal.add_reference-requires-clause-within
+add_reference-requires-clause-within c = grind (arith, common_steps)
+
+pub returns-then-not-are_some-clause-ends : goal.returns-then-not-are_some-clause-ends
+returns-then-not-are_some-clause-ends c = grind (arith, common_steps)
