@@ -35,7 +35,7 @@ pub use Rattle.names.specs.declared.tag.Tag.TheVariants.{Table, Other}
 pub use Rattle.std.proofs.Common.{◌≡◌, ℕ, sym, ◌∙◌, ap, arith, [], refl, false, List, rules, true, Some, length, Bool, ◌∷◌, subst, ◌+◌, cond, None, suc, ◌<◌, Option, zero, drop, ◌≤◌, leb, reverse, inl, find, inr, Ok, not, ◌≢◌, ◌⊎◌, ◌++◌, map, slice_get, ◌-◌, Err, nat_eq, eqb, ◌||◌, is_some, is_none, take, if◌then◌else◌, ◌*◌, filter, ltb, drop_of_length-le}
 pub use Rattle.std.proofs.Math.Bool.{or-true}
 pub use Rattle.std.proofs.lemmas.Bool.{cond_both, ne_eqb, eq-eqb, eqb-true, le-leb, lt-leb, cases_lt, leb-true, not-false, not-true}
-pub use Rattle.std.proofs.lemmas.Grind.{reverse_onto, common_steps}
+pub use Rattle.std.proofs.lemmas.Grind.{reverse_onto, common_steps, elements}
 pub use Rattle.std.proofs.lemmas.List.{reverse-append, nil_from_length, length-map}
 pub use Rattle.std.specs.Char.{encode_utf8, len_utf8}
 pub use Rattle.std.specs.List.{list_any}

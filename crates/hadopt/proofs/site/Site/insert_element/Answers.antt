@@ -1,4 +1,4 @@
-use Rattle.hadopt.proofs.Names.{rules, numbers, ℕ, Ok, Result, Refusal}
+use Rattle.hadopt.proofs.Names.{rules, numbers, ℕ, Ok, Result, Refusal, arith, elements}
 use Rattle.hadopt.proofs.Inserting.{gives-kept, inserted-kept}
 use Rattle.hadopt.proofs.site.Site.insert_element.Goals as goal
 
@@ -9,3 +9,6 @@ pub returns-clause-kept : goal.returns-clause-kept
 returns-clause-kept c = λ k stands.
     let r : Result ℕ Refusal = Ok c.in_ok-node.node in
     gives-kept numbers r _ _ (returns-clause-done c) (inserted-kept numbers c.args.at c.args.name _ c.args.place c.args.self.now stands k)
+
+pub invariant_of-self-2 : goal.invariant_of-self-2
+invariant_of-self-2 c = grind (arith, elements)

@@ -1,4 +1,4 @@
-use Rattle.hadopt.proofs.Names.{◌≡◌, ◌∙◌, ap, sym, subst, ℕ, nat_eq, Some, option_map, open_of, EntryOf, find_entry, entry_is, numbers, SiteOf, with_furthest_block, WithFurthestBlock, TurnGives}
+use Rattle.hadopt.proofs.Names.{◌≡◌, ◌∙◌, ap, sym, subst, ℕ, nat_eq, Some, option_map, open_of, EntryOf, find_entry, entry_is, numbers, SiteOf, with_furthest_block, WithFurthestBlock, TurnGives, arith, common_steps}
 use Rattle.hadopt.proofs.Keeps.{found-entry, blocked-stands, blocked-turn, turn-keeps}
 use Rattle.hadopt.proofs.site.Site.outer_turn.Goals as goal
 
@@ -49,3 +49,6 @@ returns-in-None-clause-done c = let f = entry_is c.in-Some.entry.now in
 pub returns-in-None-clause-kept : goal.returns-in-None-clause-kept
 returns-in-None-clause-kept c = turn-keeps c.args.at c.args.subject c.args.self.now c.without_furthest_block.new.self c.without_furthest_block.result c.requires
     (returns-in-None-clause-done c)
+
+pub returns-in_default-clause-kept : goal.returns-in_default-clause-kept
+returns-in_default-clause-kept c = grind (arith, common_steps)
