@@ -47,7 +47,7 @@ pub record IsEntity (text : List ℕ) (entity : Entity) : Type 0 where
 abbrev pub entity_to : ℕ → ℕ → Entity
 entity_to start end = record { start = start; end = end }
 
--- where an entry ends whose key ends here: after the count come so many characters
+-- where the entry after one whose key ends here begins: a byte that counts its characters, and four bytes for each, are between
 abbrev pub next_start : List ℕ → ℕ → ℕ
 next_start text end = end + 1 + 4 * get_or text end 0
 

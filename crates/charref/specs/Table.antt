@@ -131,10 +131,11 @@ has_read_key table search = is_as_long search.depth (best_entry table search.bes
 pub record HasNone (table : Entities) (bytes : List ℕ) : Type 0 where
   pub none : (k : ℕ) (e : Entry) → slice_get table k ≡ Some e → starts_with nat_eq e.key bytes ≡ true → ⊥
 
--- a search stays within a table of this many entries
-abbrev pub is_index : Option ℕ → ℕ → Bool
-is_index None count = true
-is_index (Some k) count = nat_lt k count
+-- none, or the index of one of so many entries
+abbrev pub is_none_or_index : Option ℕ → ℕ → Bool
+is_none_or_index None count = true
+is_none_or_index (Some k) count = nat_lt k count
 
+-- a search stays within a table of this many entries
 abbrev pub is_search_within : Search → ℕ → Bool
-is_search_within search count = nat_le search.low search.high && nat_le search.high count && is_index search.best count
+is_search_within search count = nat_le search.low search.high && nat_le search.high count && is_none_or_index search.best count

@@ -19,11 +19,11 @@ const SLOTS_TRIED: u32 = 8;
 /// The `;` of a name is looked for among so many bytes: the longest name of HTML's table has one letter less.
 const LONGEST: usize = 32;
 
-/// For each name of two letters or more before a `;`, at one of the slots from its hash on, one more than the index of its key;
-/// 0 in a slot that is free. What is found here is compared with the key, and what is not found is looked up byte by byte.
+/// For each name of two letters or more before a `;`, at one of the slots from its hash on, the ordinal of its key in the table, counted
+/// from 1; 0 in a slot that is free. What is found here is compared with the key, and what is not found is looked up byte by byte.
 #[derive(Drop)]
 pub(crate) struct Slots {
-    kept: Vec<u16>,
+    ordinals: Vec<u16>,
 }
 
 /// How many slots a table of so many entries has.
@@ -77,19 +77,19 @@ impl Slots {
     /// The slots of a table, or none, in which nothing is found.
     pub(crate) fn new(alloc: Global, flat: &Flat, indexed: bool) -> Result<Slots, AllocError> {
         let mut slots = Slots {
-            kept: Vec::new(alloc),
+            ordinals: Vec::new(alloc),
         };
         if !indexed {
             return Ok(slots);
         }
-        slots.kept.resize(slots_for(flat.len()), 0)?;
+        slots.ordinals.resize(slots_for(flat.len()), 0)?;
         for index in 0..flat.len() {
-            let Ok(kept) = u16::try_from(index + 1) else {
+            let Ok(ordinal) = u16::try_from(index + 1) else {
                 return Ok(slots);
             };
             let key = flat.key(index);
             if key.len() > 3 && ends_in_semicolon(key) {
-                slots.put(hash_of(&key[1..key.len() - 1]), kept);
+                slots.put(hash_of(&key[1..key.len() - 1]), ordinal);
             }
         }
         Ok(slots)
@@ -98,15 +98,15 @@ impl Slots {
     /// The slot for a hash, after so many others.
     #[inline(always)]
     fn slot(&self, hash: u32, tried: u32) -> usize {
-        hash.wrapping_add(tried) as usize & self.kept.len().wrapping_sub(1)
+        hash.wrapping_add(tried) as usize & self.ordinals.len().wrapping_sub(1)
     }
 
-    /// Puts one more than an index into the first free slot for this hash, if one is near.
-    fn put(&mut self, hash: u32, kept: u16) {
+    /// Puts the ordinal of a key into the first free slot for this hash, if one is near.
+    fn put(&mut self, hash: u32, ordinal: u16) {
         for tried in 0..SLOTS_TRIED {
             let slot = self.slot(hash, tried);
-            if slot < self.kept.len() && self.kept[slot] == 0 {
-                self.kept[slot] = kept;
+            if slot < self.ordinals.len() && self.ordinals[slot] == 0 {
+                self.ordinals[slot] = ordinal;
                 return;
             }
         }
@@ -124,11 +124,11 @@ impl Slots {
         }
         let hash = hash_of(&bytes[..count]);
         for tried in 0..SLOTS_TRIED {
-            let kept = *self.kept.get(self.slot(hash, tried))?;
-            if kept == 0 {
+            let ordinal = *self.ordinals.get(self.slot(hash, tried))?;
+            if ordinal == 0 {
                 return None;
             }
-            let index = usize::from(kept) - 1;
+            let index = usize::from(ordinal) - 1;
             if index < flat.len() && is_whole(flat, index, bytes) {
                 return Some(index);
             }

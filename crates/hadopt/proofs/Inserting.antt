@@ -256,7 +256,7 @@ module _ {N : Type 0} (n : Naming N) where
   pub listed-kept : (s : SiteOf N) (items : List (Listed N)) → PlainEntries n items → IsSound n s → IsSound n (with_items items s)
   listed-kept s items p k = record { counted = k.counted; open_stands = k.open_stands; plain = p }
 
-  plain-cleared : (items : List (Listed N)) → PlainEntries n items → PlainEntries n (cleared items)
+  pub plain-cleared : (items : List (Listed N)) → PlainEntries n items → PlainEntries n (cleared items)
   plain-cleared [] p = p
   plain-cleared (marker ∷ items) p = p
   plain-cleared (entry e ∷ items) p = plain-cleared items p.1

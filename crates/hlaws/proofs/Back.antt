@@ -1,5 +1,5 @@
 -- Plain lists of trees and plain documents come back, as their tokens are read and build them.
-use Rattle.hlaws.proofs.Names.{◌≡◌, ℕ, ◌≤◌, List, ◌++◌, length, map, None, Ok, refl, sym, ap, ◌∙◌, subst, IsUtf8, ParseError, Placed, input_errors, Policy, read_len, refusal_of, Tok, Tokens, texts, Goes, State, Steps, reads_in, input_text, start_of, start_kind, ParseOptions, manner, policy, Parse, Parses, accepted, token_placed, decoded_text, in_order, order-permutes, order-sorted, take, ParseCase, first_state, take-length, BadBytes, rules, suc, ◌+◌, Bool, true, false, not, ◌∷◌, arith, Forest, size, BuildsForest, begins_with_line_feed, trees, PlainBuilds, ActsAs, [], Some, ◌⊎◌, inl, inr, ne_eqb, false≢true, none, tree, children_of, join-none, raw_kind, tag_named, tag_text, Tag, Mode, InBody, InCaption, InCell, InTable, InTableBody, InRow, fragment_begins, rule_of, perform, eof, Done, Rule, step_begun, ends, goes, Content, Escaping, fits_mode, fits_current, is_flow_mode, numbered_forest, HoldsUtf8, AreRead, fragment, is_context, token_taken, row, texts_in, Inside, are_content, are_content_if, in_context_of, is_form_element, plain_tokens, IsQuiet, stack, erased, node, context_mode, Keep, FitsForest, GivesForest, PlainComesBack, written, ◌&&◌, ◌||◌, nat_le, bytes_eq, codes, is_refused, tags, is_plain, is_context_name, IsBuiltForest, What, no_tree, document, PlainDocumentComesBack, GivesDocument, without_identifiers, ComesBackWithoutIdentifiers, written_among, node_text, is_raw_in, name_in, max, depth}
+use Rattle.hlaws.proofs.Names.{◌≡◌, ℕ, ◌≤◌, List, ◌++◌, length, map, None, Ok, refl, sym, ap, ◌∙◌, subst, IsUtf8, ParseError, Placed, input_errors, Policy, read_len, refusal_of, Tok, Tokens, texts, Goes, State, Steps, reads_in, input_text, start_of, start_kind, ParseOptions, manner, policy, Parse, Parses, accepted, token_placed, decoded_text, in_order, order-permutes, order-sorted, take, ParseCase, first_state, take-length, BadBytes, rules, suc, ◌+◌, Bool, true, false, not, ◌∷◌, arith, Forest, size, BuildsForest, begins_with_line_feed, trees, PlainBuilds, ActsAs, [], Some, ◌⊎◌, inl, inr, ne_eqb, false≢true, none, tree, children_of, join-none, raw_kind, tag_named, tag_text, Tag, Mode, InBody, InCaption, InCell, InTable, InTableBody, InRow, fragment_begins, rule_of, perform, eof, Done, Rule, step_begun, ends, goes, Content, Escaping, fits_mode, fits_current, is_flow_mode, numbered_forest, HoldsUtf8, AreRead, fragment, is_context, token_taken, row, texts_in, Inside, are_content, are_content_if, in_context_of, is_form_element, plain_tokens, IsQuiet, stack, erased, node, context_mode, Keep, FitsForest, GivesForest, PlainComesBack, written, ◌&&◌, ◌||◌, nat_le, bytes_eq, codes, is_refused, tags, is_plain, is_plain_name, IsBuiltForest, What, no_tree, document, PlainDocumentComesBack, GivesDocument, without_identifiers, ComesBackWithoutIdentifiers, written_among, node_text, is_raw_in, name_in, max, depth}
 use Rattle.htext.specs.declared.BadBytes.TheVariants as bad
 use Rattle.htext.proofs.Refusals as refusals
 use Rattle.hlaws.proofs.OneAnswer.{all-read}
@@ -77,7 +77,7 @@ plain_builds inside l s ts q utf8 plain well room h = subst (λ (v : State (List
 
 -- whether a parser takes a context of this name, which is known as t
 abbrev is_taken : Tag → List ℕ → Bool
-is_taken t name = nat_le (length name) 64 && is_context_name name && not (bytes_eq name (codes "colgroup") || is_refused t)
+is_taken t name = nat_le (length name) 64 && is_plain_name name && not (bytes_eq name (codes "colgroup") || is_refused t)
 
 -- whether a list is plain in it
 abbrev is_plain_in : Tag → Forest (List ℕ) → Bool

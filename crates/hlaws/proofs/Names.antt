@@ -38,7 +38,7 @@ pub use Rattle.hopen.specs.Stack.{OpenNode, in_scope, is_open}
 pub use Rattle.hparse.proofs.Sorting.{in_order, order-permutes, order-sorted}
 pub use Rattle.hparse.specs.Answer.{error_cmp, Answers, read_text, refused_text}
 pub use Rattle.hparse.specs.Input.{reads_in, input_text, Manner, how_of, settled_in}
-pub use Rattle.hparse.specs.Parse.{ParseOptions, fragment, manner, policy, Parse, Parses, accepted, is_context, start_of, refused_token, refused_tag, ParseCase, first_state, is_context_name, document, refused_bytes}
+pub use Rattle.hparse.specs.Parse.{ParseOptions, fragment, manner, policy, Parse, Parses, accepted, is_context, start_of, refused_token, refused_tag, ParseCase, first_state, document, refused_bytes}
 pub use Rattle.hparse.specs.Taken.{token_placed, token_taken}
 pub use Rattle.hserialize.specs.ContentTable.{row, texts_in, takes_role, takes_comments}
 pub use Rattle.hserialize.specs.Escaping.{written_char, escaped, escapes_quote, escapes_angles}

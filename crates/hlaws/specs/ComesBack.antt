@@ -29,6 +29,7 @@ abbrev pub AreUtf8 : List (Attribute (List ℕ)) → Type 0
 AreUtf8 [] = Unit {0}
 AreUtf8 (a ∷ others) = IsUtf8 a.0 × IsUtf8 a.1 × AreUtf8 others
 
+-- each name, value and text of a list is UTF-8
 abbrev pub HoldsUtf8 : Forest (List ℕ) → Type 0
 HoldsUtf8 none = Unit {0}
 HoldsUtf8 (tree b (forest.element name attrs) kids rest) = IsUtf8 name × AreUtf8 attrs × HoldsUtf8 kids × HoldsUtf8 rest

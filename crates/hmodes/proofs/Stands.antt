@@ -1,7 +1,6 @@
 -- Every rule keeps what the open nodes need: they are in the document's tree, each outside of those below it.
-use Rattle.hmodes.proofs.Vocabulary.{raw, void, by_test, cond_both, ◌≡◌, ℕ, ◌<◌, Bool, true, false, cond, leb, List, [], ◌∷◌, Option, Some, None, refl, subst, length, ◌&&◌, ◌||◌, ◌==◌, option_map_or, is_node, EntryOf, Listed, entry, cleared, find_entry, without_entry, with_room, Tag, is_space, Naming, Outcome, SiteOf, stack, trees, with_error, from_top, open_node, place, is, adopted, Each, TellsTables, deep, OnGoes, goes-then, Plain, PlainEntries, plain-without, Well, among-past, among-drop, fewer, listed-as, erred, closed-well, other-well, adopted-well, missing-well, first-fits, here-fits, root-fits, place-fits, added-well, inserted-well, put-well, reconstructed-well, Mode, AfterHead, family_of, TokenKind, Nul, Ws, Char, Start, Do, ◌▸◌, error, insert, insert_named, insert_root, insert_root_named, insert_comment, comment_in_document, comment_in_first, insert_doctype, put, add_missing_to_first, add_missing_to_second, pop, pop_to, pop_to_name, pop_to_group, implied, implied_except, implied_except_name, clear_to_table, clear_to_body, clear_to_row, push_head, remove_head, remove_form, reconstruct, push_to_list, clear_to_marker, close_p, adopt, adopt_listed, other_end, Token, character, start, State, Flow, kind_of, token_name, token_attrs, token_text, token_char, doctype_node, perform, with_site, flow_of, removed, forgotten, current_node, adopted_listed, head_pushed, rule_of, mode_error, Rule, after_head, late, Html, among-all, among-after, among-without, among-room, each-among, entries}
+use Rattle.hmodes.proofs.Vocabulary.{raw, void, by_test, cond_both, ◌≡◌, ℕ, ◌<◌, Bool, true, false, cond, leb, List, [], Option, Some, None, refl, subst, length, ◌&&◌, ◌||◌, ◌==◌, option_map_or, is_node, EntryOf, Listed, find_entry, without_entry, with_room, Tag, is_space, Naming, Outcome, SiteOf, stack, trees, with_error, from_top, open_node, place, is, adopted, Each, TellsTables, deep, OnGoes, goes-then, Plain, PlainEntries, plain-cleared, plain-without, Well, among-past, among-drop, fewer, listed-as, erred, closed-well, other-well, adopted-well, missing-well, first-fits, here-fits, root-fits, place-fits, added-well, inserted-well, put-well, reconstructed-well, Mode, AfterHead, family_of, TokenKind, Nul, Ws, Char, Start, Do, ◌▸◌, error, insert, insert_named, insert_root, insert_root_named, insert_comment, comment_in_document, comment_in_first, insert_doctype, put, add_missing_to_first, add_missing_to_second, pop, pop_to, pop_to_name, pop_to_group, implied, implied_except, implied_except_name, clear_to_table, clear_to_body, clear_to_row, push_head, remove_head, remove_form, reconstruct, push_to_list, clear_to_marker, close_p, adopt, adopt_listed, other_end, Token, character, start, State, Flow, kind_of, token_name, token_attrs, token_text, token_char, doctype_node, perform, with_site, flow_of, removed, forgotten, current_node, adopted_listed, head_pushed, rule_of, mode_error, Rule, after_head, late, Html, among-all, among-after, among-without, among-room, each-among, entries}
 use Rattle.hnodes.specs.Forest as forest
-use Rattle.hopen.specs.Formatting as list
 use Rattle.names.specs.declared.tag.Tag.TheVariants as tag
 use Rattle.hadopt.specs.Site as site
 use Rattle.hmodes.specs.declared.family.Family.TheVariants as family
@@ -38,11 +37,6 @@ module _ {N : Type 0} (n : Naming N) where
   removed-well : (o : Option ℕ) (s : SiteOf N) → Well n s → Well n (removed o s)
   removed-well None s h = fewer n s (stack s) (among-all (stack s)) h
   removed-well (Some k) s h = fewer n s _ (among-without (is_node k) (stack s)) h
-
-  plain-cleared : (items : List (Listed N)) → PlainEntries n items → PlainEntries n (cleared items)
-  plain-cleared [] h = tt
-  plain-cleared (list.marker ∷ items) h = h
-  plain-cleared (entry e ∷ items) h = plain-cleared items h.1
 
   plain-room : (e : EntryOf N) (items : List (Listed N)) → PlainEntries n items → PlainEntries n (with_room n.same e items)
   plain-room e items h = each-among (λ d. Plain n d.name) (entries (with_room n.same e items)) (entries items) (among-room n.same e items) h
@@ -87,7 +81,7 @@ module _ {N : Type 0} (n : Naming N) where
         let plain = plain-room (record { node = current_node s.site; name = token_name n t; attrs = token_attrs t }) s.site.items h.plain in
         listed-as n s.site _ (name so.0 so.1, plain) h
     well-word v w marker i calm at t name s h = listed-as n s.site _ h.plain h
-    well-word v w clear_to_marker i calm at t name s h = listed-as n s.site _ (plain-cleared s.site.items h.plain) h
+    well-word v w clear_to_marker i calm at t name s h = listed-as n s.site _ (plain-cleared n s.site.items h.plain) h
     well-word v w close_p i calm at t name s h = closed-well n at (is n tag.P) s.site h
     well-word v w adopt i calm at t name s h = on-site s _ (adopted-well n tells at (token_name n t) s.site h)
     well-word v w adopt_listed i calm at t name s h = on-site s _ (adopted-listed-well at (token_name n t) s.site h)

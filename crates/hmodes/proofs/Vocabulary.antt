@@ -3,7 +3,7 @@ pub use Rattle.hmodes.specs.Vocabulary.{Gives, character_in_body, text, conforms
 pub use Rattle.hadopt.proofs.Choices.{by_test, cond-map, or-map}
 pub use Rattle.hadopt.proofs.Agreeing.{numbers-agree}
 pub use Rattle.hadopt.proofs.Climbing.{OnGoes, Plain, PlainEntries, goes-then, goes-map, plain-without, made-goes, turn-goes, inserted-goes}
-pub use Rattle.hadopt.proofs.Inserting.{added-well, among-room, first-fits, here-fits, inserted-well, missing-well, place-fits, put-well, reconstructed-well, root-fits}
+pub use Rattle.hadopt.proofs.Inserting.{added-well, among-room, first-fits, here-fits, inserted-well, missing-well, place-fits, plain-cleared, put-well, reconstructed-well, root-fits}
 pub use Rattle.hadopt.proofs.Keeping.{from-well, numbers-tell, texts-tell}
 pub use Rattle.hadopt.proofs.Settling.{Well}
 pub use Rattle.hadopt.proofs.Turning.{adopted-well, among-drop, among-past, closed-well, erred, fewer, listed-as, other-well}

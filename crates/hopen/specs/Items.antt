@@ -66,7 +66,7 @@ IsStored stored.Hole = Unit {0}
 IsStored stored.Marker = Unit {0}
 IsStored (stored.Entry e) = (e.node < nowhere) × (e.name < nowhere)
 
--- in one way
+-- no two proofs of it differ
 pub IsStored-prop : (x : Stored) → IsProp (IsStored x)
 IsStored-prop stored.Hole = Unit-prop
 IsStored-prop stored.Marker = Unit-prop

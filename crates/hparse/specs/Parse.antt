@@ -96,10 +96,6 @@ module _ (opts : ParseOptions) (parse_case : ParseCase) (bytes : List ℕ) where
         → IsPermutation (input_errors (reads_in (manner opts parse_case) bytes) ++ (errors ++ state.site.errors)) sorted → IsSorted error_cmp sorted
         → refusal_of (policy opts parse_case) bytes ≡ None → Parses (Ok (record { trees = state.site.nodes.trees; errors = sorted }))
 
--- the form of a context's name: a lower letter, then lower letters, digits, `-`, `_` and `:`
-abbrev pub is_context_name : List ℕ → Bool
-is_context_name = is_plain_name
-
--- whether this may be the name of a fragment's context
+-- whether this may be the name of a fragment's context: a lower letter, then lower letters, digits, `-`, `_` and `:`
 abbrev pub is_context : List ℕ → Bool
-is_context name = nat_le (length name) 64 && is_context_name name && not (bytes_eq name (codes "colgroup") || is_refused (tag_named name))
+is_context name = nat_le (length name) 64 && is_plain_name name && not (bytes_eq name (codes "colgroup") || is_refused (tag_named name))

@@ -8,10 +8,11 @@ use Rattle.htoken.specs.declared.markup_declaration_open.Opens.{Opens}
 use Rattle.htoken.specs.declared.markup_declaration_open.Opens.TheVariants as opens
 use Rattle.htoken.specs.Data.{is_cdata, is_declaration}
 
--- a character, and whether a text begins with a word: in any case where this says so
+-- a character as it is compared, where this says so in any case
 abbrev pub folded_as : Bool → ℕ → ℕ
 folded_as any_case c = if any_case then to_ascii_lowercase c else c
 
+-- a text begins with a word, where this says so in any case
 abbrev pub spells_as : Bool → List ℕ → List Placed → Bool
 spells_as any_case word text = if any_case then spells_in_any_case word text else spells word text
 
