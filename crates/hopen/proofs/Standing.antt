@@ -1,5 +1,5 @@
 -- The kept levels of the first slots of a vector, as one more comes and the last of them goes.
-use Rattle.hopen.proofs.Names.{cases_eq, nat_tests, common_steps, ◌≡◌, ◌≢◌, ℕ, suc, ◌+◌, ◌-◌, ◌<◌, ◌≤◌, List, [], ◌∷◌, ◌++◌, Option, Some, None, length, map, take, get_or, set, sym, ◌∙◌, ap, subst, arith, transport, length-map, length-set, length-take-le, take_all, take-map, get_or-take, get_or_default, ext_get_or, Open, sum_by, sum_by_more, sum_by-le, AreAlike, AreAsLong, AreIn, HasRoom, IsBelow, IsIn, IsLinkedTo, KeepSetsTo, LevelsStand, LevelsTo, StandsTo, closing, kept_kind_at, kept_kind, open_name, open_node, slot_names, slot_nodes, nearest_in, nearest_up, opened_by, same_name_of, same_node_of, sets_at, stack_of, somes, slots_of, OpenNode, KeptNode, LastLevels, Kind, set_node, NameSet, open_of, reverse_push}
+use Rattle.hopen.proofs.Names.{◌≡◌, ◌≢◌, ℕ, suc, ◌+◌, ◌-◌, ◌<◌, ◌≤◌, List, [], ◌∷◌, ◌++◌, Option, Some, None, length, map, take, get_or, set, sym, ◌∙◌, ap, subst, arith, transport, length-map, length-set, length-take-le, is_hole_kind, refl, take_all, take-map, get_or-take, get_or_default, ext_get_or, Open, sum_by, sum_by_more, sum_by-le, AreAlike, AreAsLong, AreIn, HasRoom, IsBelow, IsIn, IsLinkedTo, KeepSetsTo, LevelsStand, LevelsTo, StandsTo, closing, kept_kind_at, kept_kind, open_name, open_node, slot_names, slot_nodes, nearest_in, nearest_up, opened_by, same_name_of, same_node_of, sets_at, stack_of, somes, slots_of, OpenNode, KeptNode, LastLevels, Kind, set_node, NameSet, open_of, reverse_push}
 use Rattle.hopen.specs.declared.kept.Kind.TheVariants as kind
 use Rattle.std.proofs.Math.ListN.{get_or-map}
 use Rattle.hopen.proofs.Projected.{below-held, no-node, length-names, length-nodes, part-at, part-of, nearest-alike}
@@ -10,7 +10,9 @@ pub stack-more : (items : List KeptNode) (x : KeptNode) (y : OpenNode ℕ) → o
 stack-more items x y e = ap somes (reverse_push opened_by items x) ∙ ap (λ o. somes (o ∷ slots_of items)) e
 
 pub one-closes : (k : Kind) → closing k ≤ 1
-one-closes k = grind arith
+one-closes kind.Hole = omega arith
+one-closes kind.MayStay = omega arith
+one-closes kind.MustClose = omega arith
 
 module _ (last : LastLevels) (items : List KeptNode) where
   abbrev ys : List (Option (OpenNode ℕ))
@@ -21,11 +23,19 @@ module _ (last : LastLevels) (items : List KeptNode) where
 
   -- as few must be closed as there are slots
   pub few-closed : (n : ℕ) → n ≤ length items → LevelsTo n last items → last.must_close ≤ n
-  few-closed n h s = grind (arith, s.closes, sum_by-le closing 1 (take n ks), one-closes, length-take-le n ks, length-map items kept_kind_at)
+  few-closed n h s = let long = length-take-le n ks (omega (arith, length-map items kept_kind_at)) in
+      omega (arith, s.closes, sum_by-le closing 1 (take n ks) (λ j d _. one-closes (get_or (take n ks) j d)), long)
 
   -- what stands of all slots
   pub stands-to : LevelsStand last items → LevelsTo (length items) last items
-  stands-to s = grind (arith, common_steps, nat_tests, get_or-map, length-map, length-names, length-nodes, take_all)
+  stands-to s = record {
+    names = subst (λ n. IsLinkedTo n last.names.items (slot_names ys) (map same_name_of items)) (length-names items) s.names;
+    nodes = subst (λ n. IsLinkedTo n last.nodes.items (slot_nodes ys) (map same_node_of items)) (length-nodes items) s.nodes;
+    sets = subst (λ n. KeepSetsTo n ys (map sets_at items)) (length-map items opened_by) s.sets;
+    kinds = λ j h. ap (λ l. get_or l j kind.Hole) s.kinds ∙ get_or-map kept_kind ys j None;
+    closes = s.closes ∙ ap (sum_by closing) (sym (take_all (length items) ks (omega (arith, length-map items kept_kind_at))));
+    fits = s.fits;
+  }
 
   pub to-stands : (n : ℕ) → n ≡ length items → LevelsTo n last items → LevelsStand last items
   to-stands n all s = record {
@@ -49,12 +59,21 @@ module _ (last : LastLevels) (items : List KeptNode) where
     )
 
 pub in-as-long : (last next : LastLevels) → AreAsLong next last → (ys : List (Option (OpenNode ℕ))) → AreIn last ys → AreIn next ys
-in-as-long last next long ys all i d h = grind (arith, common_steps, nat_tests)
+in-as-long last next long ys all i d h = go (get_or ys i d) (all i d h) where
+  go : (z : Option (OpenNode ℕ)) → IsIn last z → IsIn next z
+  go None is = tt
+  go (Some y) is = (omega (arith, is.0, long.names), omega (arith, is.1, long.nodes))
 
 -- a slot right below others, where these begin alike
 pub below-front : (last : LastLevels) (ys zs : List (Option (OpenNode ℕ))) (n : ℕ) (new : Open) (x : KeptNode) → IsBelow last ys n new x
     → ((j : ℕ) → j < n → get_or zs j None ≡ get_or ys j None) → IsBelow last zs n x.opened x
-below-front last ys zs n new x b same = grind (arith, common_steps, nat_tests, nearest-alike)
+below-front last ys zs n new x b same = record {
+  opened = refl;
+  same_name = b.same_name ∙ ap (λ (o : Open). get_or last.names.items o.name 0) (sym b.opened);
+  same_node = b.same_node ∙ ap (λ (o : Open). get_or last.nodes.items o.node 0) (sym b.opened);
+  sets = λ set. b.sets set ∙ (λ i. nearest_in set (Some (open_of (sym b.opened i))) (sym (nearest-alike set ys zs n same) i));
+  kind = b.kind ∙ ap (λ (o : Open). kept_kind (Some (open_of o))) (sym b.opened);
+}
 
 -- items that keep the same, but for hints
 pub levels-alike : (n : ℕ) (last : LastLevels) (xs ys : List KeptNode) → AreAlike xs ys → LevelsTo n last ys → LevelsTo n last xs
@@ -105,7 +124,14 @@ module _ (items : List KeptNode) (i : ℕ) (within : i < length items) (last : L
 
   -- a hole goes
   pub levels-hole : LevelsTo (suc i) last items → get_or zs i None ≡ None → LevelsTo i last items
-  levels-hole s gone = grind (arith, common_steps, nat_tests, closes-more, get_or-map, linked-hole)
+  levels-hole s gone = record {
+    names = linked-hole last.names.items (slot_names zs) (map same_name_of items) i (get_or-map open_name zs i None ∙ ap open_name gone) s.names;
+    nodes = linked-hole last.nodes.items (slot_nodes zs) (map same_node_of items) i (get_or-map open_node zs i None ∙ ap open_node gone) s.nodes;
+    sets = λ set m h. s.sets set m (omega arith);
+    kinds = λ j h. s.kinds j (omega arith);
+    closes = omega (arith, s.closes, closes-more, ap closing (s.kinds i (omega arith) ∙ ap kept_kind gone));
+    fits = s.fits;
+  }
 
   module _ (x : KeptNode) (is : x ≡ get_or items i x) where
     slot : get_or zs i None ≡ opened_by x
@@ -117,16 +143,30 @@ module _ (items : List KeptNode) (i : ℕ) (within : i < length items) (last : L
     -- what holds of the first slots, and of the next one, holds of all of them
     kinds-next : ((j : ℕ) → j < i → get_or kinds j kind.Hole ≡ kept_kind (get_or zs j None)) → x.kind ≡ kept_kind (opened_by x) → (j : ℕ) → j < suc i
         → get_or kinds j kind.Hole ≡ kept_kind (get_or zs j None)
-    kinds-next below here j h = grind (arith, nat_tests, kind-at, slot, below j, cases_eq j i)
+    kinds-next below here j h = either (λ m. get_or kinds m kind.Hole ≡ kept_kind (get_or zs m None)) i j
+        (kind-at ∙ here ∙ ap kept_kind (sym slot)) (λ ne. below j (omega arith))
 
     sets-next : KeepSetsTo i zs (map sets_at items) → ((set : NameSet) → get_or zs i None ≢ None → set_node set x.sets ≡ nearest_up set zs (suc i))
         → KeepSetsTo (suc i) zs (map sets_at items)
-    sets-next below here set m h = grind (arith, nat_tests, either, part-of (set_node set) sets_at 0 items i x within is, below set m, here set)
+    sets-next below here set m h = either
+        (λ m. get_or zs m None ≢ None → get_or (map (set_node set) (map sets_at items)) m 0 ≡ nearest_up set zs (suc m)) i m
+        (λ live. part-of (set_node set) sets_at 0 items i x within is ∙ here set live) (λ ne. below set m (omega arith))
 
     -- a hole comes
     pub levels-gap : x.kind ≡ kind.Hole → x.same_name ≡ 0 → x.same_node ≡ 0 → LevelsTo i last items → LevelsTo (suc i) last items
-    levels-gap hole same_name same_node s = grind
-        (arith, common_steps, nat_tests, closes-more, get_or-map, kind-at, kinds-next, linked-gap, no-node, part-at, sets-next, slot)
+    levels-gap hole same_name same_node s =
+        let none : opened_by x ≡ None = no-node x (ap is_hole_kind hole) in
+        let gone : get_or zs i None ≡ None = slot ∙ none in
+        record {
+          names = linked-gap last.names.items (slot_names zs) (map same_name_of items) i (get_or-map open_name zs i None ∙ ap open_name gone)
+              (part-at same_name_of 0 items i x within is ∙ same_name) s.names;
+          nodes = linked-gap last.nodes.items (slot_nodes zs) (map same_node_of items) i (get_or-map open_node zs i None ∙ ap open_node gone)
+              (part-at same_node_of 0 items i x within is ∙ same_node) s.nodes;
+          sets = sets-next s.sets (λ set live. absurd (live gone));
+          kinds = kinds-next s.kinds (hole ∙ ap kept_kind (sym none));
+          closes = omega (arith, s.closes, closes-more, ap closing (kind-at ∙ hole));
+          fits = s.fits;
+        }
 
     -- a node comes, with what the tables say
     pub levels-more : (next : LastLevels) (level : ℕ) → level ≡ suc i → IsBelow last zs i x.opened x → HasRoom last x.opened
@@ -164,4 +204,15 @@ module _ (items : List KeptNode) (i : ℕ) (within : i < length items) (last : L
 
       pub levels-less : (next : LastLevels) → next.names.items ≡ set last.names.items x.opened.name x.same_name
           → next.nodes.items ≡ set last.nodes.items x.opened.node x.same_node → next.must_close ≡ last.must_close - closing x.kind → LevelsTo i next items
-      levels-less next names nodes closes = grind (arith, common_steps, nat_tests, closes-more, kind-at, length-set, linked-less, name-here, node-here, part-at)
+      levels-less next names nodes closes = record {
+        names = subst (λ (t : List ℕ). IsLinkedTo i t (slot_names zs) (map same_name_of items))
+            (sym (names ∙ ap (set last.names.items x.opened.name) (sym (part-at same_name_of 0 items i x within is))))
+            (linked-less last.names.items (slot_names zs) (map same_name_of items) i x.opened.name name-here s.names);
+        nodes = subst (λ (t : List ℕ). IsLinkedTo i t (slot_nodes zs) (map same_node_of items))
+            (sym (nodes ∙ ap (set last.nodes.items x.opened.node) (sym (part-at same_node_of 0 items i x within is))))
+            (linked-less last.nodes.items (slot_nodes zs) (map same_node_of items) i x.opened.node node-here s.nodes);
+        sets = λ set m h. s.sets set m (omega arith);
+        kinds = λ j h. s.kinds j (omega arith);
+        closes = omega (arith, closes, s.closes, closes-more, ap closing kind-at);
+        fits = omega (arith, s.fits, ap length nodes, length-set last.nodes.items x.opened.node x.same_node);
+      }
