@@ -29,7 +29,7 @@ pub use Rattle.names.specs.declared.error.ErrorCode.{ErrorCode}
 pub use Rattle.names.specs.declared.error.ErrorCode.TheVariants.{UnexpectedCharacterInUnquotedAttributeValue, UnexpectedEqualsSignBeforeAttributeName, MissingSemicolonAfterCharacterReference, UnknownNamedCharacterReference, MissingWhitespaceBetweenAttributes, DuplicateAttribute, UnexpectedSolidusInTag, MissingAttributeValue}
 pub use Rattle.names.specs.declared.error.ParseError.{ParseError}
 pub use Rattle.names.specs.declared.placed.Placed.{Placed}
-pub use Rattle.std.proofs.Common.{◌≡◌, ℕ, Bool, true, false, not, ◌&&◌, ◌||◌, eqb, List, [], ◌∷◌, ◌++◌, sym, refl, ap, ◌∙◌, subst, append_assoc, append-nil, arith, drop, zero, suc, ◌-◌, ◌≤◌, true≢false, length, take, map, slice_get, Option, Some, None, bytes_eq, is_some, Vec, Global, ◌+◌, ◌<◌, get_or, inl, inr, rules, replicate, cond, add-one, get_or-set_same, get_or-set_other}
+pub use Rattle.std.proofs.Common.{◌≡◌, ℕ, Bool, true, false, not, ◌&&◌, ◌||◌, eqb, List, [], ◌∷◌, ◌++◌, sym, refl, ap, ◌∙◌, subst, append_assoc, append-nil, arith, drop, zero, suc, ◌-◌, ◌≤◌, true≢false, length, take, map, slice_get, Option, Some, None, bytes_eq, is_some, Vec, Global, ◌+◌, ◌<◌, get_or, inl, inr, rules, replicate, cond, add-one, get_or-set_same, get_or-set_other, set}
 pub use Rattle.std.proofs.Math.Path.{transport}
 pub use Rattle.std.proofs.lemmas.Bool.{eqb-true, and_from, and_right}
 pub use Rattle.std.proofs.lemmas.Bool.Decides.{nat_tests}
@@ -42,7 +42,7 @@ pub use Rattle.std.specs.List.{flat_map, list_all, prefix_len, slice_range}
 pub use Rattle.std.specs.Prelude.{encode_utf8_all, if◌then◌else◌, option_to_list, codes, slice_index, Ok, Result, Err}
 pub use Rattle.std.specs.String.{string_bytes}
 pub use Rattle.htag.specs.AtOnce.{IsPlainValue, IsQuietFront, is_no_reference, IsPlainAttribute, IsWritten, IsBareName, IsTagName, IsNameBefore}
-pub use Rattle.htag.specs.Run.{next_at, IsValueRun, TakesFront, EndsOrNot}
+pub use Rattle.htag.specs.Run.{next_at, IsValueRun, TakesFront, EndsOrNot, not_ended}
 pub use Rattle.htext.proofs.Clean.{clean_rest, front_of_test}
 pub use Rattle.std.proofs.lemmas.List.Folds.{list_all-append}
 pub use Rattle.std.specs.Str.{IsUtf8, chars, IsCharBoundary, IsAscii}

@@ -1,5 +1,5 @@
 -- An attribute that stands whole in a run.
-use Rattle.htag.proofs.Vocabulary.{◌≡◌, ◌<◌, ℕ, ◌+◌, ◌-◌, Bool, true, false, not, ◌||◌, eqb, List, [], ◌∷◌, ◌++◌, length, take, drop, sym, refl, ap, ◌∙◌, subst, append_assoc, append-nil, arith, nat_tests, and_parts, Some, get_or, length-take-le, take-append-drop, take_all, flat_map, list_all, len_utf8, ParseError, Placed, MissingWhitespaceBetweenAttributes, UnexpectedEqualsSignBeforeAttributeName, Texts, all, begins, stops, characters, error_if, is_equals, is_greater, is_quote, is_space, past, place, placed, all_weaker, all_placed, Entities, Piece, TagWalk, AreValue, pieces_text, value_bytes, IsInTag, is_unquoted_byte, is_word_byte, Attribute, IsPart, Part, attribute_name_errors, attribute_part, ends_attribute_name, ends_name, ends_unquoted, name_errors_here, unquoted_errors, value_errors, take_at, drop-drop, list_all-append, chars-nil, is_ascii, chars, IsUtf8, is_clean, IsCut, clean_rest, IsQuietFront, next_at, and_from, length-append, drop_at, IsCharBoundary, has_characters, IsPlainAttribute, IsWritten, PlainValue, get_or-append_seam, drop-length, chars-append, chars-IsAscii, encodes-chars, IsCharBoundary-before_ascii, IsCharBoundary-from_drop, IsUtf8-take, IsUtf8-drop, slice_range, EndsAs, IsAttributeName}
+use Rattle.htag.proofs.Vocabulary.{◌≡◌, ◌<◌, ◌≤◌, ℕ, ◌+◌, ◌-◌, Bool, true, false, not, ◌||◌, eqb, List, [], ◌∷◌, ◌++◌, length, take, drop, sym, refl, ap, ◌∙◌, subst, append_assoc, append-nil, arith, nat_tests, and_parts, Some, get_or, length-take-le, take-append-drop, take_all, flat_map, list_all, len_utf8, ParseError, Placed, MissingWhitespaceBetweenAttributes, UnexpectedEqualsSignBeforeAttributeName, Texts, all, begins, stops, characters, error_if, is_equals, is_greater, is_quote, is_space, past, place, placed, all_weaker, all_placed, Entities, Piece, TagWalk, AreValue, pieces_text, value_bytes, IsInTag, is_unquoted_byte, is_word_byte, Attribute, IsPart, Part, attribute_name_errors, attribute_part, ends_attribute_name, ends_name, ends_unquoted, name_errors_here, unquoted_errors, value_errors, take_at, drop-drop, list_all-append, chars-nil, is_ascii, chars, IsUtf8, is_clean, IsCut, clean_rest, IsQuietFront, next_at, and_from, length-append, drop_at, IsCharBoundary, has_characters, IsPlainAttribute, IsWritten, PlainValue, get_or-append_seam, drop-length, chars-append, chars-IsAscii, encodes-chars, IsCharBoundary-before_ascii, IsCharBoundary-from_drop, IsUtf8-take, IsUtf8-drop, slice_range, EndsAs, IsAttributeName}
 use Rattle.htext.proofs.Parts.{placed-append as placed_text}
 use Rattle.htag.specs.declared.tag_state.TagState.TheVariants as phase
 use Rattle.htag.proofs.Ascii.{ascii_chars, ascii_placed, cut_at, each_ascii}
@@ -44,6 +44,20 @@ first_passes : (test other : ℕ → Bool) → ((c : ℕ) → test c ≡ true �
     → begins other (placed at xs) ≡ true
 first_passes test other weaker at [] some h = absurd (omega (arith, some))
 first_passes test other weaker at (x ∷ xs) some h = weaker x (and_parts (test x) (list_all test xs) h).0
+
+unquoted_begun : (c : ℕ) → is_unquoted_byte c ≡ true → not (ends_unquoted c || is_quote c) ≡ true
+unquoted_begun c h = grind (arith, h, nat_tests)
+
+-- what is no ASCII
+wide_unquoted : (c : ℕ) → 128 ≤ c → is_unquoted_byte c ≡ true
+wide_unquoted c h = grind (arith, h, nat_tests)
+
+wide_quoted : (mark : ℕ) → is_quote mark ≡ true → (c : ℕ) → 128 ≤ c → not (eqb c mark) ≡ true
+wide_quoted mark quote c h = grind (arith, h, quote, nat_tests)
+
+some_chars : (bytes : List ℕ) → IsUtf8 bytes → 0 < length bytes → 0 < length (chars bytes)
+some_chars bytes u some = let one : false ≡ eqb (length bytes) 0 = grind (arith, some, nat_tests) in
+    let begun = has_characters bytes u one in grind (arith, begun, nat_tests)
 
 pub unquoted_even : (c : ℕ) → is_unquoted_byte c ≡ true → not_odd c ≡ true
 unquoted_even c h = grind (arith, h, nat_tests)
@@ -114,7 +128,7 @@ module _ (run : List ℕ) (size : ℕ) (found : PlainValue) (found_is : IsPlainA
   past_sign : IsUtf8 (value ++ far)
   past_sign = (ascii_chars before (value ++ far) outside.0 past_name).0
 
-  long : length run ≡ end + length (next ∷ found_is.value.others)
+  pub long : length run ≡ size + found.before + found.value + found.after + length (found_is.value.next ∷ found_is.value.others)
   long = omega (arith, simp length-append at (ap length whole), length-take-le size run found_is.within)
 
   left_value : drop (size + found.before) run ≡ value ++ far
@@ -292,7 +306,7 @@ module _ (run : List ℕ) (size : ℕ) (found : PlainValue) (found_is : IsPlainA
           let closes : List Placed = record { ch = mark; at = in_value + length value } ∷ [] in
           IsPart.quoted (placed at name) sign opens closes pieces mark (is_name sign refl) refl refl quote
           (ap (all (λ c. not (eqb c mark))) (sym text_is) ∙ all_placed (λ c. not (eqb c mark)) in_value (chars value)
-          (all_chars (λ c. not (eqb c mark)) (λ byte l. grind (arith, l, quote, nat_tests)) value value_utf8 inside)) are refl
+          (all_chars (λ c. not (eqb c mark)) (wide_quoted mark quote) value value_utf8 inside)) are refl
           (part_is whole_text (sign ++ opens ++ pieces_text pieces ++ closes) (value_bytes pieces)
           (value_errors pieces ++ error_if (not (stops ends_name rest)) MissingWhitespaceBetweenAttributes (place last rest))
           (whole_is (sign ++ opens ++ pieces_text pieces ++ closes)
@@ -301,13 +315,10 @@ module _ (run : List ℕ) (size : ℕ) (found : PlainValue) (found_is : IsPlainA
           ∙ ap (λ (b : Bool). error_if (not b) MissingWhitespaceBetweenAttributes (place last rest)) (follows ends_name next rest ends follow))))
       front_here (IsWritten.unquoted before_is some inside after_is ends) = all_own (λ last rest follow.
           let sign : List Placed = record { ch = 61; at = after_name } ∷ [] in
-          let passes : list_all is_unquoted_byte (chars value) ≡ true =
-          all_chars is_unquoted_byte (λ byte l. grind (arith, l, nat_tests)) value value_utf8 inside in
-          let one : false ≡ eqb (length value) 0 = grind (arith, some, nat_tests) in
-          let begun = has_characters value value_utf8 one in
+          let passes : list_all is_unquoted_byte (chars value) ≡ true = all_chars is_unquoted_byte wide_unquoted value value_utf8 inside in
           IsPart.unquoted (placed at name) sign pieces (is_name sign refl) refl
           (ap (begins (λ c. not (ends_unquoted c || is_quote c))) (sym text_is) ∙ first_passes is_unquoted_byte (λ c. not (ends_unquoted c || is_quote c))
-          (λ c h. grind (arith, h, nat_tests)) in_value (chars value) (grind (arith, begun, nat_tests)) passes) (record {
+          unquoted_begun in_value (chars value) (some_chars value value_utf8 some) passes) (record {
             passes_none = ap (all (λ c. not (ends_unquoted c))) (sym text_is) ∙ all_placed (λ c. not (ends_unquoted c)) in_value (chars value)
                 (all_weaker is_unquoted_byte (λ c. not (ends_unquoted c)) unquoted_inside (chars value) passes);
             stops_after = follows ends_unquoted next rest ends follow;

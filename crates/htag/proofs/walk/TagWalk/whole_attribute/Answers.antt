@@ -1,9 +1,9 @@
-use Rattle.htag.proofs.Vocabulary.{◌≡◌, [], Bool, ℕ, List, refl, sym, ap, ◌∙◌, subst, Some, length, slice_get, list_all, string_bytes, Attr, true, if◌then◌else◌, grows_not, chars, is_clean, front_of, IsQuietFront, is_no_reference}
+use Rattle.htag.proofs.Vocabulary.{◌≡◌, [], Bool, ℕ, List, arith, refl, sym, ap, ◌∙◌, subst, Some, length, slice_get, list_all, string_bytes, Attr, true, if◌then◌else◌, grows_not, chars, is_clean, front_of, IsQuietFront, is_no_reference, err_from_is_err_and, Entities, Texts, TagWalk, ParseError, Refusal, Result, Err, Memory, Grows, TakesFront, not_ended}
 use Rattle.htag.proofs.Values.{keeps_tag}
 use Rattle.htag.proofs.AtOnce.{attribute_is}
 use Rattle.htag.proofs.InRun.{none_cut, none_front, none_taken}
 use Rattle.htag.proofs.Keeping.{other_value}
-use Rattle.htag.proofs.Whole.{attribute, end_cut, from_edge, name_edge, to_edge, value, whole_taken, written_clean, written_is}
+use Rattle.htag.proofs.Whole.{attribute, end_cut, from_edge, long, name_edge, to_edge, value, whole_taken, written_clean, written_is}
 use Rattle.htag.proofs.walk.TagWalk.whole_attribute.Goals as goal
 
 pub range-written-requires-clause-start_boundary : goal.range-written-requires-clause-start_boundary
@@ -69,3 +69,34 @@ returns c = let run = c.args.run.now in let found = c.in-Some.found in
 
 pub returns-then-length-eq0 : goal.returns-then-length-eq0
 returns-then-length-eq0 c = none_front c.utf8.run
+
+pub overflow_add-to : goal.overflow_add-to
+overflow_add-to c =
+    let is = attribute_is c.args.run.now _ c.word_run-length.result c.in-Some.found c.as_bytes-bytes.ensures.value c.word_run-length.ensures.counted
+    c.if-length-eq0.false c.word_run-length.ensures.few c.in-Some.ensures in
+    omega (arith, c.as_bytes-bytes.ensures.len, long c.args.run.now _ _ is c.utf8.run)
+
+pub overflow_add-result : goal.overflow_add-result
+overflow_add-result c =
+    let is = attribute_is c.args.run.now _ c.word_run-length.result c.in-Some.found c.as_bytes-bytes.ensures.value c.word_run-length.ensures.counted
+    c.if-length-eq0.false c.word_run-length.ensures.few c.in-Some.ensures in
+    omega (arith, c.as_bytes-bytes.ensures.len, long c.args.run.now _ _ is c.utf8.run)
+
+refused : {table : Entities} {before after : Texts} {at : ℕ} {run : List ℕ} {old new : TagWalk} {errors later : List ParseError} (answer : Result ℕ Refusal)
+    (e : Refusal) → answer ≡ Err e → e ≡ Memory → Grows before after → TakesFront table before after at run old errors (not_ended answer) new later
+refused answer e is memory grows = rw is (record { cut = tt; takes = λ body h. memory; grows = grows; kind = tt })
+
+pub returns-in_err-read_value : goal.returns-in_err-read_value
+returns-in_err-read_value c = let e = err_from_is_err_and c.from_residual.result c.from_residual.ensures.1 in refused _ e.0 e.1 e.2 (grows_not _)
+
+pub returns-in_err-name : goal.returns-in_err-name
+returns-in_err-name c = let e = err_from_is_err_and c.from_residual-in_err-name.result c.from_residual-in_err-name.ensures.1 in
+    refused _ e.0 e.1 e.2 c.in_err-name.ensures.grows
+
+pub returns-in_err-attr : goal.returns-in_err-attr
+returns-in_err-attr c = let e = err_from_is_err_and c.from_residual-in_err-attr.result c.from_residual-in_err-attr.ensures.1 in
+    refused _ e.0 e.1 e.2 c.in_ok-name.ensures.grows
+
+pub returns-in_err-keep : goal.returns-in_err-keep
+returns-in_err-keep c = let e = err_from_is_err_and c.from_residual-in_err-keep.result c.from_residual-in_err-keep.ensures.1 in
+    refused _ e.0 e.1 (e.2 ∙ c.in_err-keep.ensures.memory) c.in_ok-name.ensures.grows
