@@ -41,6 +41,9 @@ agrees true _ c = is_flow c
 agrees false role.Phrasing c = is_inline c
 agrees false _ c = has_own c
 
+differ : false ≡ true → ⊥
+differ h = cc
+
 rows_agree : (t : Tag) → agrees (inserts_marker t) (row t).0 (row t).1 ≡ true
 rows_agree tag.A = refl
 rows_agree _ = refl
@@ -60,7 +63,7 @@ in_phrasing content.Around h = record { own = refl; fit = refl; back = refl }
 in_phrasing _ h = record { own = cc; fit = cc; back = cc }
 
 in_other : (C c : Content) → has_own c ≡ true → IsInner C c false
-in_other C content.Around h = absurd cc
+in_other C content.Around h = absurd (differ h)
 in_other C _ h = record { own = refl; fit = refl; back = refl }
 
 inner : (C : Content) (r : Role) (c : Content) (u : Bool) → agrees false r c ≡ true → takes_role C r ≡ true → fits C u ≡ true → IsInner C c u
@@ -72,12 +75,12 @@ inner content.TableParts role.TablePart c u a h f = subst (IsInner content.Table
 inner content.Columns role.Column c u a h f = subst (IsInner content.Columns c) (sym (not-true u f)) (in_other content.Columns c a)
 inner content.TableRows role.TableRow c u a h f = subst (IsInner content.TableRows c) (sym (not-true u f)) (in_other content.TableRows c a)
 inner content.Cells role.Cell c u a h f = subst (IsInner content.Cells c) (sym (not-true u f)) (in_other content.Cells c a)
-inner _ _ c u a h f = absurd cc
+inner _ _ c u a h f = absurd (differ h)
 
 left_back : (m : Bool) (C : Content) (r : Role) (c : Content) (u : Bool) → agrees m r c ≡ true → takes_role C r ≡ true → fits C u ≡ true
     → cond (is_phrasing c) false (cond (is_phrasing c) true u) ≡ u
 left_back true C r content.Flow u a h f = refl
-left_back true C r _ u a h f = absurd cc
+left_back true C r _ u a h f = absurd (differ a)
 left_back false C r c u a h f = (inner C r c u a h f).back
 
 -- a list in this content with these texts, wherever forms are
@@ -130,7 +133,11 @@ enter_element t c allowed a no_marker takes fit =
 -- an element that inserts a marker begins a region of flow
 pub enters_region : (t : Tag) (inside : Inside) → inserts_marker t ≡ true → without_form (inside_element t inside) ≡ in_region content.Flow
 enters_region tag.Caption inside h = refl
-enters_region _ inside h = cc
+enters_region tag.Td inside h = refl
+enters_region tag.Th inside h = refl
+enters_region tag.Object inside h = refl
+enters_region tag.Marquee inside h = refl
+enters_region _ inside h = absurd (differ h)
 
 -- a node that is no element
 pub enter_other : (a : Around) → IsEntered tag.Other (place_in content.Empty texts.None a) a

@@ -1,5 +1,5 @@
 -- A text as it is written, in runs of characters that are written as they are.
-use Rattle.hserialize.proofs.Names.{◌≡◌, ℕ, ◌+◌, ◌-◌, List, [], ◌++◌, length, take, drop, refl, sym, ◌∙◌, ap, arith, length-append, append_assoc, take_rest, encode_utf8, flat_map, Refusal, escaped, Taken, AddsBytes, Fails, Escaping, drop-append_seam, take-append_seam, nil_from_length, chars-nil, chars_past_char, IsUtf8-past_char, IsUtf8, written_char, Setting, subst}
+use Rattle.hserialize.proofs.Names.{◌≡◌, ℕ, ◌+◌, ◌-◌, ◌≤◌, List, [], ◌++◌, length, take, drop, refl, sym, ◌∙◌, ap, arith, length-append, append_assoc, take_rest, encode_utf8, flat_map, Refusal, escaped, Taken, AddsBytes, Fails, Escaping, drop-append_seam, take-append_seam, nil_from_length, chars-nil, chars_past_char, IsUtf8-past_char, IsUtf8, written_char, Setting, subst}
 use Rattle.hserialize.proofs.Output.{HasLeft, none_put, part_put, part_failed}
 
 -- What is before `done` is written, and so far each character after it is written as it is.
@@ -26,6 +26,15 @@ module _ (how : Escaping) (setting : Setting) (source : List ℕ) (done at : ℕ
   run_is lent end same here = (λ i. take (count i) (drop done (same i))) ∙ ap (take (length s.run)) run_left ∙ take-append_seam s.run rest where
     count : end - done ≡ length s.run
     count = omega (arith, s.done_is, s.at_is, here)
+
+  pub stands : (lent : List ℕ) → lent ≡ source → length lent ≡ at + length rest
+  stands lent same = ap length (same ∙ s.parts) ∙ simp length-append (omega (arith, s.at_is))
+
+  pub at_within : (lent : List ℕ) (end : ℕ) → lent ≡ source → end ≡ at → end ≤ length lent
+  at_within lent end same here = omega (arith, stands lent same, here)
+
+  pub done_within : (lent : List ℕ) → lent ≡ source → done ≤ length lent
+  done_within lent same = omega (arith, stands lent same, s.done_is, s.at_is)
 
   module _ (ch : ℕ) (next : List ℕ) (split : rest ≡ encode_utf8 ch ++ next) where
     escaped_next : escaped how setting rest ≡ written_char how setting ch ++ escaped how setting next

@@ -1,6 +1,6 @@
 use Rattle.hserialize.proofs.Names.{◌∙◌, ap, ◌+◌, CharIndices}
 use Rattle.hserialize.proofs.Output.{last_put, passed_on}
-use Rattle.hserialize.proofs.Escapes.{begins_at, run_is, kept, replaced, put_failed, last_is}
+use Rattle.hserialize.proofs.Escapes.{begins_at, run_is, kept, replaced, put_failed, last_is, at_within, done_within}
 use Rattle.hserialize.proofs.escaped.put_escaped.Goals as goal
 
 pub returns-in_err-put_before : goal.returns-in_err-put_before
@@ -26,3 +26,9 @@ pub loop-at-init : goal.loop-at-init
 loop-at-init g c = let gives = c.into_iter-at-iterator.ensures.into_iter_gives in
     begins_at _ _ _ _ _ _ (ap (λ (i : CharIndices). i.at) gives ∙ c.char_indices-at-items.ensures.offset)
     (ap (λ (i : CharIndices). i.rest.now) gives ∙ c.char_indices-at-items.ensures.rest) c.utf8.source
+
+pub slice_bounds-put_before-end : goal.slice_bounds-put_before-end
+slice_bounds-put_before-end g c = at_within _ _ _ _ _ _ _ _ c.loop-at.invariant _ _ c.as_bytes-bytes.ensures.value c.in-Some.ensures.steps.0
+
+pub slice_bounds-put-count : goal.slice_bounds-put-count
+slice_bounds-put-count g c = done_within _ _ _ _ _ _ _ _ c.loop-at.invariant _ c.as_bytes-bytes.ensures.value
