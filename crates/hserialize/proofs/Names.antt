@@ -57,7 +57,7 @@ pub use Rattle.std.specs.Io.KnownBytes.{Appends}
 pub use Rattle.std.specs.List.{flat_map, repeat, AllByRecursion, All, list_all, list_any, sum_by}
 pub use Rattle.std.specs.List.Sorted.{IsPermutation, IsSorted, IsSortedBy}
 pub use Rattle.std.specs.Option.{option_map, is_none, option_map_or}
-pub use Rattle.std.specs.Prelude.{IsErrAnd, IsTrue, ◌||◌, ◌&&◌, IfSome, bytes_eq, is_some, IfErr, OnErr, OnOk}
+pub use Rattle.std.specs.Prelude.{slice_get, IsErrAnd, IsTrue, ◌||◌, ◌&&◌, IfSome, bytes_eq, is_some, IfErr, OnErr, OnOk}
 pub use Rattle.std.proofs.lemmas.Str.{chars-nil, chars_past_char, IsUtf8-past_char}
 pub use Rattle.std.specs.Str.{IsUtf8}
 pub use Rattle.hserialize.specs.Escaping.{written_char}
