@@ -1,5 +1,5 @@
 -- Taking a character, whatever is held, and a run of plain characters as a whole or a part after another.
-use Rattle.htoken.proofs.Names.{◌≡◌, ℕ, ◌+◌, List, [], ◌∷◌, ◌++◌, take, drop, sym, refl, ap, ◌∙◌, subst, Result, Ok, Err, append_assoc, append-nil, arith, true, list_all, chars, nat_tests, Placed, RawKind, Refusal, Texts, Grows, grows_on, placed, text_kept, is_plain_byte, IsCut, placed_cut, placed_more, Entities, Token, Tokenizer, Tok, Item, ItemToken, ItemError, Event, Gives, Reports, TokenMeans, Alone, WithNames, token_in, Handed, HandedMeans, Mean, HasTaken, Takes, take_ran_out, take_refused, take_sink_refused, take_took, attrs_kept, all_weaker, is_ascii, ◌≤◌, ◌<◌, zero, suc, Bool, false, length, len_utf8, encode_utf8, ParseError, Memory, all, is_plain_character, and_parts, HasReadOf, HasReadDoctype, IsDoctype, doctype_token, IsCommentOf, TakesRun, IsInTag, State, Comment, Standing, is_script, FollowsAll, HandsEvents, run_events, replacement_run, tag_mark, after_place, next_from, after_last, less, Stands, Reads, holds, IsHeld, IsBetween, IsInMarkup, IsInMarkedTag, last_char, run_ran_out, run_refused, run_goes_on, IsUtf8, Hands, gives_item, run_tokens, Keeps, EndsTag, IsWholeTag, names_grow, tag_ahead, cond, prefix_len, and_from, is_only_data, prefix_all, front_of_test, len_utf8_ascii, IsInAmbiguousAmpersand, in_ambiguous_ampersand, later_errors}
+use Rattle.htoken.proofs.Names.{TakesPart, ◌≡◌, ℕ, ◌+◌, List, [], ◌∷◌, ◌++◌, take, drop, sym, refl, ap, ◌∙◌, subst, Result, Ok, Err, append_assoc, append-nil, arith, true, list_all, chars, nat_tests, Placed, RawKind, Refusal, Texts, Grows, grows_on, placed, text_kept, is_plain_byte, IsCut, placed_cut, placed_more, Entities, Token, Tokenizer, Tok, Item, ItemToken, ItemError, Event, Gives, Reports, TokenMeans, Alone, WithNames, token_in, Handed, HandedMeans, Mean, HasTaken, Takes, take_ran_out, take_refused, take_sink_refused, take_took, attrs_kept, all_weaker, is_ascii, ◌≤◌, ◌<◌, zero, suc, Bool, false, length, len_utf8, encode_utf8, ParseError, Memory, all, is_plain_character, and_parts, HasReadOf, HasReadDoctype, IsDoctype, doctype_token, IsCommentOf, TakesRun, IsInTag, State, Comment, Standing, is_script, FollowsAll, HandsEvents, run_events, replacement_run, tag_mark, after_place, next_from, after_last, less, Stands, Reads, holds, IsHeld, IsBetween, IsInMarkup, IsInMarkedTag, last_char, run_ran_out, run_refused, run_goes_on, IsUtf8, Hands, gives_item, run_tokens, Keeps, EndsTag, IsWholeTag, names_grow, tag_ahead, cond, prefix_len, and_from, is_only_data, prefix_all, front_of_test, len_utf8_ascii, IsInAmbiguousAmpersand, in_ambiguous_ampersand, later_errors}
 use Rattle.htoken.specs.declared.token.Token.TheVariants as code
 use Rattle.htoken.proofs.Going.{takes_both, goes_on, after_last-snoc, are_front, held_in, kind_in, ran_out_of, reads_as, reads_text}
 use Rattle.htoken.specs.declared.state.State.TheVariants as state
@@ -389,6 +389,13 @@ pub cut_refused : {S : Type 0} {gives : S → Item → Result (Unit {0}) Refusal
     → Takes gives table start text (placed at (chars (take count run))) taken names old (Err e) new next
     → Takes gives table start text (placed at (chars run)) taken names old (Err e) new then
 cut_refused {count = count} {run = run} at cut h = rw (placed_cut count run cut at) (refused_longer (placed (at + count) (chars (drop count run))) h)
+
+pub part_refused : {S : Type 0} {gives : S → Item → Result (Unit {0}) Refusal → S → Type 0} {table : Entities} {start : RawKind} {text : List Placed}
+    {taken : List Event} {names : Texts} {old new : S} {e : Refusal} {next : Tokenizer} {count : ℕ} {run : List ℕ} {answer : Result ℕ Refusal}
+    (then : Tokenizer) (at : ℕ) → answer ≡ Err e → IsCut count run
+    → Takes gives table start text (placed at (chars (take count run))) taken names old (Err e) new next
+    → TakesPart gives table start text at run taken names old answer new then
+part_refused then at is cut h = rw is (cut_refused at cut h)
 
 -- nothing was fed
 pub takes_nothing : {S : Type 0} {gives : S → Item → Result (Unit {0}) Refusal → S → Type 0} {table : Entities} {start : RawKind} {t : Tokenizer}

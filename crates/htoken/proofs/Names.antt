@@ -26,7 +26,7 @@ pub use Rattle.hmarkup.specs.declared.comment.CommentKind.{CommentKind}
 pub use Rattle.hmarkup.specs.declared.comment.CommentKind.TheVariants.{Bogus}
 pub use Rattle.htag.proofs.Ascii.{ascii_chars, ascii_cut, ascii_placed, ascii_taken, each_ascii, edge_of, cut_at}
 pub use Rattle.htag.proofs.AtOnce.{named_alone, named_plain, named_within, bare_bytes, bare_front, bare_no_errors, bare_placed, bare_plain, bare_within}
-pub use Rattle.htag.proofs.InRun.{begins_with, characters_placed, prefix_all}
+pub use Rattle.htag.proofs.InRun.{begins_with, characters_placed, none_cut, prefix_all}
 pub use Rattle.htag.proofs.Keeping.{looks_ahead as tag_ahead, attributes_grow, names_grow}
 pub use Rattle.htag.proofs.Naming.{attrs_kept}
 pub use Rattle.htag.proofs.Parts.{begins_stops, begins-more, parts_text-snoc, AreParts-snoc}

@@ -51,3 +51,18 @@ returns-in-Err-clause-takes g c = λ table start before text taken grows h.
 
 pub returns-in_err-feed_char-clause-grows : goal.returns-in_err-feed_char-clause-grows
 returns-in_err-feed_char-clause-grows g c = grind (arith, common_steps)
+
+pub returns-in-Err-clause-again : goal.returns-in-Err-clause-again
+returns-in-Err-clause-again g c = λ refusal e. absurd (c.in_default.not-Some refusal e)
+
+pub returns-in_default-answer-clause-again : goal.returns-in_default-answer-clause-again
+returns-in_default-answer-clause-again g c = λ refusal e. absurd (c.in_default.not-Some refusal e)
+
+pub returns-in-Err-clause-grows : goal.returns-in-Err-clause-grows
+returns-in-Err-clause-grows g c = grows_not _
+
+pub returns-in_default-answer-clause-grows : goal.returns-in_default-answer-clause-grows
+returns-in_default-answer-clause-grows g c = grows_not _
+
+pub returns-in_default-answer-clause-refused : goal.returns-in_default-answer-clause-refused
+returns-in_default-answer-clause-refused g c = rw c.in_default-answer.is tt

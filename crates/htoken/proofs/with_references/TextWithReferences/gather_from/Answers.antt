@@ -63,3 +63,16 @@ add_reference-requires-clause-within c = grind (arith, common_steps)
 
 pub returns-then-not-are_some-clause-ends : goal.returns-then-not-are_some-clause-ends
 returns-then-not-are_some-clause-ends c = grind (arith, common_steps)
+
+pub returns-then-not-are_some-clause-whole : goal.returns-then-not-are_some-clause-whole
+returns-then-not-are_some-clause-whole c = rw (← c.range_from-rest.ensures.value) c.in-Whole.ensures
+
+pub overflow_add-count-in-Whole : goal.overflow_add-count-in-Whole
+overflow_add-count-in-Whole c =
+    let adds = c.in_ok-count-in-Whole.ensures.adds c.args.table.now c.args.kind c.range_from-rest.result.now c.range_from-rest.utf8 c.in-Whole.ensures in
+    omega (arith, adds.front.cut.within, c.range_from-rest.ensures.len, c.args.run.now.within)
+
+pub overflow_add-count-in-Text : goal.overflow_add-count-in-Text
+overflow_add-count-in-Text c =
+    let cut = bare_cut_of c.range_from-rest.result.now c.in-Text.size c.in-Text.ensures c.range_from-rest.utf8 in
+    omega (arith, cut.within, c.range_from-rest.ensures.len, c.args.run.now.within)
