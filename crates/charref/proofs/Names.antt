@@ -48,7 +48,7 @@ pub use Rattle.htext.proofs.Parts.{placed-append}
 pub use Rattle.std.proofs.lemmas.Simd.{first_set_mask_l, length-zip2, tops_compared, mask_l-mod, length-chunk}
 pub use Rattle.std.proofs.lemmas.List.Sums.{prefix_len-le-length}
 pub use Rattle.charref.specs.declared.number.TheConstants.{DIGITS, C1_CONTROLS}
-pub use Rattle.std.proofs.lemmas.Grind.{get_or-set_at}
+pub use Rattle.std.proofs.lemmas.Grind.{elements, common_steps, get_or-set_at}
 pub use Rattle.std.specs.Cmp.{both_ways, nat_cmp_is}
 pub use Rattle.names.proofs.Handing.{slice_get-append}
 pub use Rattle.std.proofs.Math.Bool.{and-false, or-true, and_assoc}

@@ -42,6 +42,6 @@ pub use Rattle.std.specs.Option.{unwrap_or}
 pub use Rattle.std.proofs.lemmas.Str.Pattern.{IsSplitOnceResult, split_parts}
 pub use Rattle.hmarkup.specs.declared.quirks.QuirkKind.{QuirkKind}
 pub use Rattle.hmarkup.specs.declared.quirks.QuirkKind.TheVariants.{PublicIs}
-pub use Rattle.std.proofs.lemmas.Grind.{flat_map-append}
+pub use Rattle.std.proofs.lemmas.Grind.{common_steps, flat_map-append}
 pub use Rattle.std.proofs.Math.Bool.{or-true, or-false}
 pub use Rattle.hmarkup.specs.declared.tail.Opening.{Opening}

@@ -82,7 +82,7 @@ pub use Rattle.htoken.proofs.Handing.{reports_given, error_given}
 pub use Rattle.htoken.specs.declared.tokenizer.Tokenizer.{Tokenizer}
 pub use Rattle.htoken.proofs.Cutting.{tokens_in-append, errors_in-append, tokens_in-map, errors_in-map}
 pub use Rattle.std.proofs.lemmas.List.{take_more, map-append, length-take-le, take_all}
-pub use Rattle.std.proofs.lemmas.Grind.{flat_map-append}
+pub use Rattle.std.proofs.lemmas.Grind.{elements, common_steps, flat_map-append}
 pub use Rattle.hparse.specs.Shown.{ran_out, refuses, accepts}
 pub use Rattle.names.specs.declared.tag.Tag.{Tag}
 pub use Rattle.hnodes.specs.Edits.{Nodes}

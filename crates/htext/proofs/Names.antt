@@ -1,4 +1,5 @@
 -- The names of other crates and of specs/ that the proofs cite, in one place.
+pub use Rattle.std.proofs.lemmas.Grind.{common_steps}
 pub use Rattle.htext.specs.Decoding.{DecoderHasRead, IsReading, DecodingIsRefusedFrom, IsUndecided, HandsOn, Feeds, sink_refused, took_all, HasFed, ReadsOn, DecoderState, Stops, by_sink, by_bytes, EndsDecoding, end_refused, end_reached, answer_at_end, ran_out}
 pub use Rattle.htext.specs.Items.{CharItem, items, bad_each, Character, InputError, read_items, read_errors, input_errors, characters_among, errors_among}
 pub use Rattle.htext.specs.Next.{next_front, AreBad, IsAhead, IsBadAlone, AreReplaced}

@@ -15,7 +15,7 @@ pub use Rattle.hwrite.specs.Context.{case_in}
 pub use Rattle.names.specs.Names.{text_of, Texts}
 pub use Rattle.names.specs.declared.refusal.Refusal.{Refusal}
 pub use Rattle.std.proofs.Common.{◌≡◌, ℕ, ◌<◌, List, [], ◌∷◌, ◌++◌, Some, map, refl, sym, ap, ap₂, subst, ◌∙◌, Bool, true, Result, Ok, Err, inl, inr, length, ◌+◌, take, Option, None, arith, rules, false, length-append, suc, MatchResult, ◌≤◌, set, zero, ◌^◌}
-pub use Rattle.std.proofs.lemmas.Grind.{common_steps, flat_map-append}
+pub use Rattle.std.proofs.lemmas.Grind.{elements, common_steps, flat_map-append}
 pub use Rattle.std.proofs.lemmas.List.{append-nil, map-append, take-append-drop}
 pub use Rattle.std.specs.List.{flat_map}
 pub use Rattle.std.specs.Prelude.{IsErrAnd, if◌then◌else◌, ◌↔◌, nat_le, ◌⊎◌}

@@ -93,7 +93,7 @@ pub use Rattle.std.proofs.Common.{◌≡◌, ℕ, true, false, List, [], ◌++�
 pub use Rattle.std.proofs.Math.Seq.{drop-cons, drop-length, get_or-append_seam, take-suc, drop-append_seam, take-append_seam, drop-nil, take-append-add}
 pub use Rattle.std.proofs.lemmas.Bool.{eqb-true, eq-eqb, and_from, false_from_ne_true, false≢true, or_parts, not-true}
 pub use Rattle.std.proofs.lemmas.Bool.Decides.{nat_tests}
-pub use Rattle.std.proofs.lemmas.Grind.{common_steps, flat_map-append}
+pub use Rattle.std.proofs.lemmas.Grind.{elements, common_steps, flat_map-append}
 pub use Rattle.std.proofs.lemmas.List.{get_or-drop, length-append, length-drop, length-take-le, take-append-drop, take_all, take_at, drop_at, drop-drop, reverse-append, drop-append-le, take-append-le, map-append, nil_from_length, length-map, with_items_is, take-take, drop_min}
 pub use Rattle.std.proofs.lemmas.List.Folds.{list_all-append, list_any-append}
 pub use Rattle.std.proofs.lemmas.List.Sums.{prefix_len-le-length, prefix_len_stops}

@@ -21,7 +21,7 @@ pub use Rattle.names.specs.declared.refusal.Refusal.{Refusal}
 pub use Rattle.names.specs.declared.refusal.Refusal.TheVariants.{Memory, Write, BadContext}
 pub use Rattle.std.proofs.Common.{◌≡◌, ℕ, zero, suc, ◌<◌, Bool, true, false, List, [], ◌∷◌, ◌++◌, refl, ◌∙◌, arith, codes, decimal, Option, None, Some, if◌then◌else◌, ◌⊎◌, inl, inr, Result, Ok, ap, subst, sym, append-nil, Err, append_assoc, ◌≢◌, ◌+◌, ◌≤◌, length, get_or, drop, add-one, ap₂, string_bytes, rules, map, ◌-◌, ◌^◌, ◌*◌, ◌/◌, ◌%◌, ◌==◌, ◌||◌, ◌&&◌, not, bit_and, bit_or, option_map, MatchResult, take, vec_len, get_or-set_other, get_or-set_same}
 pub use Rattle.std.proofs.lemmas.Bool.Decides.{nat_tests}
-pub use Rattle.std.proofs.lemmas.Grind.{common_steps}
+pub use Rattle.std.proofs.lemmas.Grind.{elements, common_steps}
 pub use Rattle.std.proofs.lemmas.List.{drop_all, at_drop_more, get_or_append_left, length_push, with_items_is}
 pub use Rattle.std.proofs.lemmas.Result.{err_from_is_err_and, on_ok_weaker}
 pub use Rattle.std.specs.Io.KnownBytes.{Appends, Keeps, IsAtEnd}

@@ -28,7 +28,7 @@ pub use Rattle.names.specs.declared.error.ErrorCode.TheVariants.{TreeText}
 pub use Rattle.names.specs.Codes.{code_text}
 pub use Rattle.names.specs.CodeRows.{input_codes, token_codes, tree_codes}
 pub use Rattle.std.specs.Bool.{then_some}
-pub use Rattle.std.proofs.lemmas.Grind.{get_or_head}
+pub use Rattle.std.proofs.lemmas.Grind.{elements, common_steps, get_or_head}
 pub use Rattle.std.proofs.lemmas.Str.{IsUtf8-had, IsUtf8-append}
 pub use Rattle.std.proofs.lemmas.Slice.{take-put_mid, overwrites}
 pub use Rattle.std.proofs.lemmas.Map.Entries.{length-keys_of}

@@ -1,4 +1,4 @@
-use Rattle.charref.proofs.Names.{[], ◌∷◌, ◌++◌, ◌+◌, ◌-◌, true≢false, false, get_or, refl, sym, ap, ◌∙◌, subst, arith, is_ascii, IsTable, IsOpenKeyOf, HasNone, key_bytes, last_of}
+use Rattle.charref.proofs.Names.{[], ◌∷◌, ◌++◌, ◌+◌, ◌-◌, true≢false, false, get_or, refl, sym, ap, ◌∙◌, subst, arith, is_ascii, IsTable, IsOpenKeyOf, HasNone, key_bytes, last_of, elements}
 use Rattle.charref.proofs.AtOnce.{key_settles_before, none_unmarked}
 use Rattle.charref.proofs.Telling.{best_before, settled_before, count_read}
 use Rattle.charref.proofs.Naming.{some_key}
@@ -18,3 +18,6 @@ returns c = let table = c.args.table.now in let key = c.in_ok-key.key.now in let
     c.decided.ensures text p after run (λ empty. absurd (true≢false (sym empty ∙ some))) (count_read text p key.search.depth read.depth)
     (c.of-last.ensures ∙ ap last_of (c.from-2.ensures ∙ byte ∙ sym is)) (best_before table false text after p key.search read none)
     (settled_before table false text after p key.search read none))
+
+pub decided-requires : goal.decided-requires
+decided-requires c = grind (arith, elements)

@@ -1,4 +1,4 @@
-use Rattle.charref.proofs.Names.{arith, ◌≡◌, ◌+◌, ◌*◌, ◌≤◌, length, false, inr, refl, sym, ◌∙◌, subst, [], nat_tests, next_start, List, ℕ, ap}
+use Rattle.charref.proofs.Names.{arith, ◌≡◌, ◌+◌, ◌*◌, ◌≤◌, length, false, inr, refl, sym, ◌∙◌, subst, [], nat_tests, next_start, List, ℕ, ap, common_steps}
 use Rattle.charref.proofs.ReadingFlat.{HasReadTo, begun, keys_before, one_more, no_entry, no_order}
 use Rattle.charref.proofs.entries.entities_of.Goals as goal
 
@@ -34,3 +34,6 @@ loop-start-preserved c = let l = c.loop-start in let text : List ℕ = c.args.te
       key = omega (arith, c.in-Some.ensures.some);
       later = omega arith;
     }
+
+pub returns-clause-ok : goal.returns-clause-ok
+returns-clause-ok c = grind (arith, common_steps)

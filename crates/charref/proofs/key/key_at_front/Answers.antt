@@ -1,4 +1,4 @@
-use Rattle.charref.proofs.Names.{arith, rules, ◌≡◌, ℕ, ◌+◌, ◌-◌, ◌≤◌, List, length, length-drop, take, drop, take_rest, ap, ◌∙◌, is_alphanumeric, prefix_len-le-length}
+use Rattle.charref.proofs.Names.{arith, rules, ◌≡◌, ℕ, ◌+◌, ◌-◌, ◌≤◌, List, length, length-drop, take, drop, take_rest, ap, ◌∙◌, is_alphanumeric, prefix_len-le-length, common_steps}
 use Rattle.charref.proofs.Fronts.{found_key, closed, open_end}
 use Rattle.charref.proofs.key.key_at_front.Goals as goal
 use Rattle.charref.proofs.key.key_at_front.Goals.{else-end-name-via-then-end-name+else-name-end-eq59, else-end-name-via-else-end-name}
@@ -22,3 +22,6 @@ returns c = let name : List ℕ = take (length c.args.bytes.now - 1) (drop 1 c.a
       | else-end-name-via-then-end-name+else-name-end-eq59 w ↦ w.if-name-end-eq59.false close
       | else-end-name-via-else-end-name w ↦ absurd (omega (arith, less, w.if-end-name.false))
     ])) (omega arith)
+
+pub returns-then-end-eq0 : goal.returns-then-end-eq0
+returns-then-end-eq0 c = grind (arith, common_steps)

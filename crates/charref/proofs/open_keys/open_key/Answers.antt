@@ -1,4 +1,4 @@
-use Rattle.charref.proofs.Names.{arith, ℕ, length, true, refl, ap, ◌∙◌, code_at, Entry, length-set}
+use Rattle.charref.proofs.Names.{arith, ℕ, length, true, refl, ap, ◌∙◌, code_at, Entry, length-set, elements}
 use Rattle.charref.proofs.Searching.{after_key, ends_later, first_marked, marked_more}
 use Rattle.charref.proofs.open_keys.open_key.Goals as goal
 
@@ -26,3 +26,6 @@ loop-next-preserved c = let table = c.args.flat.now in let at : ℕ = c.loop-nex
           (omega (arith, c.loop-next.invariant.3, c.code_at.ensures.few, c.from.ensures)),
       length-set c.loop-next.goes_on c.from.result true ∙ c.loop-next.invariant.3,
     )
+
+pub returns : goal.returns
+returns c = grind (arith, elements)

@@ -1,4 +1,4 @@
-use Rattle.charref.proofs.Names.{rules, ◌≡◌, ℕ, List, true, Some, refl, and_from, encode_utf8_all, characters_of, codepoints, is_key, view, items_view, fields}
+use Rattle.charref.proofs.Names.{rules, ◌≡◌, ℕ, List, true, Some, refl, and_from, encode_utf8_all, characters_of, codepoints, is_key, view, items_view, fields, arith, common_steps}
 use Rattle.charref.proofs.Members.{entry_is}
 use Rattle.charref.proofs.read.add_entry.Goals as goal
 
@@ -14,3 +14,6 @@ returns-clause-ok c = let key : List ℕ = c.args.key.now in let cs : List ℕ =
       and_from _ _ key-is c.in-Some-codepoints.ensures.few,
       search rules,
     )
+
+pub returns-then-ne-clause-err : goal.returns-then-ne-clause-err
+returns-then-ne-clause-err c = grind (arith, common_steps)

@@ -1,4 +1,4 @@
-use Rattle.charref.proofs.Names.{rules, [], ◌∷◌, ◌++◌, sym, ap, ◌∙◌, subst, Entities, entry_of_json, IsRefusedWith, flat_entry, view, err_from_is_err_and}
+use Rattle.charref.proofs.Names.{rules, [], ◌∷◌, ◌++◌, sym, ap, ◌∙◌, subst, Entities, entry_of_json, IsRefusedWith, flat_entry, view, err_from_is_err_and, arith}
 use Rattle.charref.proofs.Forms.{flat_more}
 use Rattle.charref.proofs.Members.{Pair, HasReadMembers, read_member, read_refused, read_all, readable_table}
 use Rattle.charref.proofs.read.flat_of.Goals as goal
@@ -23,3 +23,6 @@ returns-in_err-add_entry-clause-err c = let table : Entities = c.loop-key.invari
     rw (p.1, p.2) (read_refused c.args.members.now.entries c.next.new.self pair table c.in_err-add_entry.field-0.0
     (subst (λ rest. HasReadMembers c.args.members.now.entries rest table) c.in-Some.ensures.steps c.loop-key.invariant.1) (subst
     (λ k. IsRefusedWith (entry_of_json k (view c.in-Some.value.now)) c.in_err-add_entry.field-0.0) c.as_str.ensures.value c.in_err-add_entry.ensures.err))
+
+pub loop-key-init : goal.loop-key-init
+loop-key-init c = grind arith

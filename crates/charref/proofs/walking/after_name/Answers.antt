@@ -1,4 +1,4 @@
-use Rattle.charref.proofs.Names.{arith, nat_tests, nat_eq, Decimal, Sign, IsRead, ◌≡◌, [], ◌∷◌, ◌++◌, true, false, true≢false, ◌&&◌, refl, sym, ap, ◌∙◌, subst, all-one, characters, is_alphanumeric, Entities, has_read_key, SearchHasRead, HasNone, IsOver, key_bytes, in_name, last_of, is_letter_or_digit, NextIs, after_sign, number_sign, and-false, Goes}
+use Rattle.charref.proofs.Names.{arith, nat_tests, nat_eq, Decimal, Sign, IsRead, ◌≡◌, [], ◌∷◌, ◌++◌, true, false, true≢false, ◌&&◌, refl, sym, ap, ◌∙◌, subst, all-one, characters, is_alphanumeric, Entities, has_read_key, SearchHasRead, HasNone, IsOver, key_bytes, in_name, last_of, is_letter_or_digit, NextIs, after_sign, number_sign, and-false, Goes, common_steps}
 use Rattle.charref.proofs.Telling.{key_bytes-more, held_longer, best_before, settled_before, best_after, settled_after, letter_of, nothing_read, something_read, count_read}
 use Rattle.charref.proofs.Numbers.{alone_before}
 use Rattle.charref.proofs.walking.after_name.Goals as goal
@@ -59,3 +59,6 @@ returns-clause-next c = λ text p read run is after.
     ])) (count_read text p c.args.search.depth read.depth) (c.of-last.ensures ∙ ap last_of (sym is))
     (best_after table c.args.in_value text after p c.goes_on.ensures.table c.in-Some.next next over waits)
     (settled_after table c.args.in_value text after p c.goes_on.ensures.table c.in-Some.next next over waits)
+
+pub has_read_key-requires : goal.has_read_key-requires
+has_read_key-requires c = grind (arith, common_steps)

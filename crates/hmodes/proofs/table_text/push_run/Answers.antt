@@ -1,4 +1,4 @@
-use Rattle.hmodes.proofs.Vocabulary.{◌+◌, ◌++◌, ◌∙◌, ℕ, List, Placed, sym, ap, arith, chars, chars-nil, placed, IsUtf8-past_char, append-nil, nil_from_length, length-encode}
+use Rattle.hmodes.proofs.Vocabulary.{◌+◌, ◌++◌, ◌∙◌, ℕ, List, Placed, sym, ap, arith, chars, chars-nil, placed, IsUtf8-past_char, append-nil, nil_from_length, length-encode, common_steps}
 use Rattle.hmodes.proofs.Pending.{pushed}
 use Rattle.hmodes.proofs.table_text.push_run.Goals as goal
 
@@ -15,3 +15,6 @@ pub returns-clause-added : goal.returns-clause-added
 returns-clause-added c = let so = c.loop-index.invariant in let kept = c.loop-index.pending.items in
     sym (append-nil kept) ∙ ap (λ (cs : List ℕ). kept ++ placed (c.args.at + c.loop-index.index-iterator.at) cs)
     (sym (ap chars (nil_from_length _ c.in-None.ensures.steps.0) ∙ chars-nil)) ∙ so.same
+
+pub loop-index-init : goal.loop-index-init
+loop-index-init c = grind (arith, common_steps)

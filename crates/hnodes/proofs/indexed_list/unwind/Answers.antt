@@ -1,3 +1,4 @@
+use Rattle.hnodes.proofs.Names.{common_steps}
 use Rattle.hnodes.proofs.IndexNames.{◌-◌, ◌<◌, length, get_or, arith, get_or_default, Link}
 use Rattle.hnodes.proofs.IndexSteps.{nothing, less-none, less-some}
 use Rattle.hnodes.proofs.indexed_list.unwind.Goals as goal
@@ -22,3 +23,6 @@ loop-end-preserved c = let links = c.args.links.now in let end = c.loop-end.end 
       indexed = less-none c.loop-end.last links (end - 1) end x (omega arith) within (get_or_default links (end - 1) x nothing within) c.if-link-ne-NONE.false
           c.loop-end.invariant.indexed;
     }
+
+pub loop-end-init : goal.loop-end-init
+loop-end-init c = grind (arith, common_steps)

@@ -1,4 +1,4 @@
-use Rattle.hnodes.proofs.Names.{ℕ, Option, sym, ◌∙◌, subst, with_place, IsChanged}
+use Rattle.hnodes.proofs.Names.{ℕ, Option, sym, ◌∙◌, subst, with_place, IsChanged, arith, common_steps}
 use Rattle.hnodes.proofs.Rows.{as_many, neighbours, row_seen, detached_by, stays_by}
 use Rattle.hnodes.proofs.links.detach.Goals as goal
 
@@ -25,3 +25,6 @@ returns-in-Some c = detached_by _ _ _ _ _ _ _ (λ s. row_seen s _ _ _ _ c.child.
 
 pub returns-in_default : goal.returns-in_default
 returns-in_default c = stays_by _ _ _ (λ s. row_seen s _ _ _ _ c.child.view_is c.requires.child_in c.index-node.ensures) (sym c.get.ensures ∙ c.in_default.is)
+
+pub set_place-requires : goal.set_place-requires
+set_place-requires c = grind (arith, common_steps)

@@ -13,3 +13,27 @@ returns-in_err-new-in-Doctype-clause-grown c = grind (arith, common_steps)
 
 pub returns-in-Some-3-clause-content : goal.returns-in-Some-3-clause-content
 returns-in-Some-3-clause-content c = grind (arith, common_steps)
+
+pub returns-in_err-new-in-None-2-clause-grown : goal.returns-in_err-new-in-None-2-clause-grown
+returns-in_err-new-in-None-2-clause-grown c = grind (arith, common_steps)
+
+pub returns-in-Some-2-clause-content : goal.returns-in-Some-2-clause-content
+returns-in-Some-2-clause-content c = grind (arith, common_steps)
+
+pub returns-in_err-run-in-Comment-clause-grown : goal.returns-in_err-run-in-Comment-clause-grown
+returns-in_err-run-in-Comment-clause-grown c = grind (arith, common_steps)
+
+pub returns-in-Some-clause-content : goal.returns-in-Some-clause-content
+returns-in-Some-clause-content c = grind (arith, common_steps)
+
+pub returns-in_ok-new-in-None-2-clause-grown : goal.returns-in_ok-new-in-None-2-clause-grown
+returns-in_ok-new-in-None-2-clause-grown c = grind (arith, common_steps)
+
+pub returns-in_err-run-in-Text-clause-grown : goal.returns-in_err-run-in-Text-clause-grown
+returns-in_err-run-in-Text-clause-grown c = grind (arith, common_steps)
+
+pub returns-in-None-3-clause-grown : goal.returns-in-None-3-clause-grown
+returns-in-None-3-clause-grown c = grind (arith, common_steps)
+
+pub returns-in-Some-2-clause-grown : goal.returns-in-Some-2-clause-grown
+returns-in-Some-2-clause-grown c = grind (arith, common_steps)

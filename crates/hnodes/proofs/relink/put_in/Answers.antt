@@ -1,3 +1,4 @@
+use Rattle.hnodes.proofs.Names.{common_steps}
 use Rattle.hnodes.proofs.IndexNames.{◌+◌, ℕ, length, ◌∙◌, arith, length-set, map-set, link_number, group_of, ap, cond, eqb, set}
 use Rattle.hnodes.proofs.Relinked.{rewritten, In, group-within, in-differ, in-here, in-within, in-keeps}
 use Rattle.hnodes.proofs.relink.put_in.Goals as goal
@@ -19,3 +20,6 @@ returns-clause-are_indexed c = let o : In c.args.last.now c.args.links.now c.arg
 
 pub returns-clause-numbers : goal.returns-clause-numbers
 returns-clause-numbers c = c.hint_at.ensures.numbers ∙ c.keep.ensures.numbers ∙ map-set link_number c.args.links.now c.args.index c.args.link
+
+pub keep-requires-clause-next : goal.keep-requires-clause-next
+keep-requires-clause-next c = grind (arith, common_steps)

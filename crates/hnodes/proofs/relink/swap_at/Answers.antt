@@ -38,3 +38,9 @@ put_in-requires-2-clause-free c = grind (arith, common_steps)
 
 pub put_in-requires-clause-free : goal.put_in-requires-clause-free
 put_in-requires-clause-free c = grind (arith, common_steps)
+
+pub returns-clause-are_indexed : goal.returns-clause-are_indexed
+returns-clause-are_indexed c = grind (arith, common_steps)
+
+pub take_out-link-requires-clause-are_indexed : goal.take_out-link-requires-clause-are_indexed
+take_out-link-requires-clause-are_indexed c = grind (arith, common_steps)

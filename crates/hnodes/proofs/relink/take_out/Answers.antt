@@ -41,3 +41,6 @@ returns-then-link-clause-numbers c = grind (arith, elements)
 
 pub returns-clause-number : goal.returns-clause-number
 returns-clause-number c = grind (arith, common_steps)
+
+pub above-requires-clause-are_indexed : goal.above-requires-clause-are_indexed
+above-requires-clause-are_indexed c = grind (arith, common_steps)

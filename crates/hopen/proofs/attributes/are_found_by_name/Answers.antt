@@ -1,4 +1,4 @@
-use Rattle.hopen.proofs.Names.{◌≡◌, Bool, false, List, map, nat_eq, rules, sym, ◌∙◌, ap, arith, list_all, list_any, list_all-map, attribute_of, Attr, are_among, same_attribute, take_all, list_all_at}
+use Rattle.hopen.proofs.Names.{◌≡◌, Bool, false, List, map, nat_eq, rules, sym, ◌∙◌, ap, arith, list_all, list_any, list_all-map, attribute_of, Attr, are_among, same_attribute, take_all, list_all_at, common_steps}
 use Rattle.hopen.proofs.attributes.are_found_by_name.Goals as goal
 
 -- whether an attribute is in the other list
@@ -16,3 +16,6 @@ returns-then-not-contains_by_name c = let missing : c.contains_by_name.result �
 pub returns : goal.returns
 returns c = sym c.loop-attr.invariant ∙ ap (list_all (there c.args.others.now)) (take_all c.loop-attr.attr-index c.args.attrs.now (omega arith))
     ∙ seen c.args.attrs.now c.args.others.now
+
+pub loop-attr-preserved : goal.loop-attr-preserved
+loop-attr-preserved c = grind (arith, common_steps)

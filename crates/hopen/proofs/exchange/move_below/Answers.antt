@@ -77,3 +77,6 @@ returns-clause-items c = let new = open_of c.args.new in let left : List KeptNod
 
 pub rewind-requires-clause-levels : goal.rewind-requires-clause-levels
 rewind-requires-clause-levels c = grind (arith, common_steps)
+
+pub unreachable-requires : goal.unreachable-requires
+unreachable-requires c = grind arith

@@ -59,3 +59,12 @@ index_mut-requires-2 c = grind (arith, common_steps)
 
 pub index_mut-requires : goal.index_mut-requires
 index_mut-requires c = grind (arith, common_steps)
+
+pub bounds-items-below-5 : goal.bounds-items-below-5
+bounds-items-below-5 c = grind (arith, common_steps)
+
+pub swap_names-requires-clause-holes : goal.swap_names-requires-clause-holes
+swap_names-requires-clause-holes c = grind (arith, common_steps)
+
+pub swap_names-requires-clause-linked : goal.swap_names-requires-clause-linked
+swap_names-requires-clause-linked c = grind (arith, common_steps)

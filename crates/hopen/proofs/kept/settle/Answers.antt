@@ -39,3 +39,6 @@ returns-clause-same c = let items = c.args.items.now in let i = c.args.index in 
     let below = c.slot_below-slot.ensures items i c.sets_of.ensures in
     c.enter.ensures.same ∙ map-set_same opened_by items i x z (below-held c.args.last.now (map opened_by items) i z.opened x below
     ∙ ap (λ (o : Open). Some (open_of o)) below.opened ∙ sym (ap opened_by (sym c.index-items-index.is) ∙ held z (sym c.is_hole.ensures ∙ c.if-is_hole.false)))
+
+pub enter-requires-clause-within : goal.enter-requires-clause-within
+enter-requires-clause-within c = grind (arith, common_steps)

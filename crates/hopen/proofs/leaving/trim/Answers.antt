@@ -25,3 +25,6 @@ loop-items-preserved c = let items = c.loop-items.items.items in
 
 pub returns-clause-rests : goal.returns-clause-rests
 returns-clause-rests c = grind (arith, common_steps, stack-holes)
+
+pub overflow_sub-last : goal.overflow_sub-last
+overflow_sub-last c = grind (arith, common_steps)

@@ -4,3 +4,6 @@ use Rattle.hopen.proofs.slots.take_holes.Goals as goal
 
 pub loop-index-preserved : goal.loop-index-preserved
 loop-index-preserved c = grind (arith, common_steps, get_or_read, taken-hole, taken-item)
+
+pub returns : goal.returns
+returns c = grind (arith, common_steps)

@@ -1,4 +1,4 @@
-use Rattle.hserialize.proofs.Names.{◌∙◌, ap, ◌+◌, CharIndices}
+use Rattle.hserialize.proofs.Names.{◌∙◌, ap, ◌+◌, CharIndices, arith, common_steps}
 use Rattle.hserialize.proofs.Output.{last_put, passed_on}
 use Rattle.hserialize.proofs.Escapes.{begins_at, run_is, kept, replaced, put_failed, last_is, at_within, done_within}
 use Rattle.hserialize.proofs.escaped.put_escaped.Goals as goal
@@ -32,3 +32,6 @@ slice_bounds-put_before-end g c = at_within _ _ _ _ _ _ _ _ c.loop-at.invariant 
 
 pub slice_bounds-put-count : goal.slice_bounds-put-count
 slice_bounds-put-count g c = done_within _ _ _ _ _ _ _ _ c.loop-at.invariant _ c.as_bytes-bytes.ensures.value
+
+pub slice_bounds-put-start : goal.slice_bounds-put-start
+slice_bounds-put-start g c = grind (arith, common_steps)

@@ -12,3 +12,6 @@ returns-clause-text g c = finished g.W.Target.written g.W.Target.failed _ _ _ c.
 
 pub put_nodes-requires-clause-room : goal.put_nodes-requires-clause-room
 put_nodes-requires-clause-room g c = grind (arith, common_steps)
+
+pub returns-clause-flushed : goal.returns-clause-flushed
+returns-clause-flushed g c = grind (arith, common_steps)

@@ -22,3 +22,6 @@ pub returns-in_err-put_node-in-Enter : goal.returns-in_err-put_node-in-Enter
 returns-in_err-put_node-in-Enter g c = passed_on _ _ _ _ c.from_residual.ensures.1
     (put_failed c.args.names.now c.args.tree.now.trees c.args.root c.loop-visit.depth _ _ (Enter c.in-Enter.node) c.loop-visit.visit-iterator _
     (c.in-Some.ensures.steps ∙ ap (λ v. v ∷ c.next.new.self) c.in-Enter.is) c.loop-visit.invariant.putting _ c.in_err-put_node-in-Enter.ensures.text)
+
+pub loop-visit-preserved : goal.loop-visit-preserved
+loop-visit-preserved g c = grind arith

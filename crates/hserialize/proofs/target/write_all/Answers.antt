@@ -12,3 +12,6 @@ loop-rest-preserved g c = let (done, split, appended, failed) = c.loop-rest.inva
 
 pub returns-clause-all : goal.returns-clause-all
 returns-clause-all g c = grind (arith, common_steps)
+
+pub returns-in-None-clause-beginning : goal.returns-in-None-clause-beginning
+returns-in-None-clause-beginning g c = grind (arith, common_steps)

@@ -1,4 +1,4 @@
-use Rattle.htext.proofs.Names.{arith, refl, subst, length, drop, ◌-◌, take_all, length-drop, IsBadAlone}
+use Rattle.htext.proofs.Names.{arith, refl, subst, length, drop, ◌-◌, take_all, length-drop, IsBadAlone, common_steps}
 use Rattle.htext.proofs.Alone.{are_bad_more}
 use Rattle.htext.proofs.run.bad_run.Goals as goal
 
@@ -9,3 +9,6 @@ loop-count-preserved c = let count = c.loop-count.count in let bytes = c.args.by
       bad = are_bad_more count bytes c.loop-count.invariant.bad
           (subst IsBadAlone (take_all (length bytes - count) (drop count bytes) (omega (arith, length-drop count bytes))) (c.if-is_bad_alone.ensures.0 refl));
     }
+
+pub returns-else-is_bad_alone-clause-all : goal.returns-else-is_bad_alone-clause-all
+returns-else-is_bad_alone-clause-all c = grind (arith, common_steps)

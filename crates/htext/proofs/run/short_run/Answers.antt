@@ -1,4 +1,4 @@
-use Rattle.htext.proofs.Names.{ℕ, List, ◌++◌, ap, ◌∙◌, sym, arith, length, drop, ◌-◌, map, prefix_len, take_all, length-append, length-drop, count_trailing_zeros, is_run_byte, is_not_of, prefix_len-le-length, length-chunk, pick_l_whole}
+use Rattle.htext.proofs.Names.{ℕ, List, ◌++◌, ap, ◌∙◌, sym, arith, length, drop, ◌-◌, map, prefix_len, take_all, length-append, length-drop, count_trailing_zeros, is_run_byte, is_not_of, prefix_len-le-length, length-chunk, pick_l_whole, common_steps}
 use Rattle.htext.proofs.Lanes.{twice_through, twice_stops}
 use Rattle.htext.proofs.run.short_run.Goals as goal
 use lib.Lanes.{chunk, mask_l}
@@ -18,3 +18,15 @@ returns-clause-counted c = let d = c.args.bytes.now in let eight : List ℕ = ch
     (pick_l_whole 0 (eight ++ eight) 16 (omega (arith, length-append eight eight, length-chunk 0 8 d (omega arith)))) in
     let left = ap (prefix_len (is_run_byte c.args.kind)) (take_all (length d - 8) (drop 8 d) (omega (arith, length-drop 8 d))) in
     omega (arith, twice_through (is_run_byte c.args.kind) d 0 8 (omega arith) (omega (arith, found)), c.run_by_one.ensures.counted, left)
+
+pub slice_bounds-run_by_one-count : goal.slice_bounds-run_by_one-count
+slice_bounds-run_by_one-count c = grind (arith, common_steps)
+
+pub slice_bounds-run_by_one-start : goal.slice_bounds-run_by_one-start
+slice_bounds-run_by_one-start c = grind (arith, common_steps)
+
+pub overflow_add-result : goal.overflow_add-result
+overflow_add-result c = grind (arith, common_steps)
+
+pub returns-clause-few : goal.returns-clause-few
+returns-clause-few c = grind (arith, common_steps)

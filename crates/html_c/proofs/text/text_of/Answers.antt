@@ -1,4 +1,4 @@
-use Rattle.html_c.proofs.Names.{no_command, of_size, unmet}
+use Rattle.html_c.proofs.Names.{no_command, of_size, unmet, arith, common_steps}
 use Rattle.html_c.proofs.Exports.{a_text, allowed, no_text}
 use Rattle.html_c.proofs.Outcomes.{fails, reasons}
 use Rattle.html_c.proofs.text.text_of.Goals as goal
@@ -24,3 +24,9 @@ returns-in_err-text-clause-says c = fails _ _ _ _ c.from_residual-in_err-text.en
 
 pub returns-clause-says : goal.returns-clause-says
 returns-clause-says c = a_text c.options-options.ensures.told c.in_ok-command.ensures c.in_ok-text.ensures.says
+
+pub text_in-text-requires-clause-piece : goal.text_in-text-requires-clause-piece
+text_in-text-requires-clause-piece c = grind (arith, common_steps)
+
+pub returns-clause-room : goal.returns-clause-room
+returns-clause-room c = grind (arith, common_steps)

@@ -1,4 +1,4 @@
-use Rattle.htmlp.proofs.Names.{map, refl, string_bytes, sym, ◌∙◌, line_missing, words_without, line_for_version, line_answered, words_refused}
+use Rattle.htmlp.proofs.Names.{map, refl, string_bytes, sym, ◌∙◌, line_missing, words_without, line_for_version, line_answered, words_refused, arith, common_steps}
 use Rattle.htmlp.proofs.Named.{table_missing, quirks_missing}
 use Rattle.htmlp.proofs.Outcomes.{passed_on}
 use Rattle.htmlp.proofs.program.answer.Goals as goal
@@ -26,3 +26,6 @@ returns-in_err-quirks g c = λ has. line_answered _ has (sym c.asks_version.ensu
 pub returns : goal.returns
 returns g c = λ has. line_answered _ has (sym c.asks_version.ensures ∙ c.if-asks_version.false)
     (c.answer_with-outcome.ensures _ c.in_ok-line.ensures.says c.in_ok-table.ensures c.in_ok-quirks.ensures)
+
+pub answer_with-outcome-requires : goal.answer_with-outcome-requires
+answer_with-outcome-requires g c = grind (arith, common_steps)

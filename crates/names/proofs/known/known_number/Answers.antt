@@ -1,4 +1,4 @@
-use Rattle.names.proofs.Vocabulary.{ap, sym, ◌∙◌, arith, subst, ◌≡◌, Bool, true, false, ℕ, List, length, Some, bytes_eq, list_any, slice_get, known, tags, type_name, A, then_some, MatchOption, letter_of}
+use Rattle.names.proofs.Vocabulary.{ap, sym, ◌∙◌, arith, subst, ◌≡◌, Bool, true, false, ℕ, List, length, Some, bytes_eq, list_any, slice_get, known, tags, type_name, A, then_some, MatchOption, letter_of, common_steps}
 use Rattle.names.proofs.KnownTexts.{IsNoneOf, tag_within, known_tag, none_known, passed_more}
 use Rattle.names.proofs.TableLemmas.{bytes_eq-true}
 use Rattle.names.proofs.known.known_number.Goals as goal
@@ -24,3 +24,6 @@ last text false e h = none_known text h (sym e)
 pub returns : goal.returns
 returns c = rw c.then_some.ensures (last c.args.text.now c.eq-2.result c.eq-2.ensures (subst (λ o. IsNoneOf o c.args.text.now) c.in_ok-letter.ensures.letter
     (λ i from to. c.loop-index.invariant i from (let past = c.loop-index-test.false in omega (arith, to, past)))))
+
+pub returns-in_err-letter : goal.returns-in_err-letter
+returns-in_err-letter c = grind (arith, common_steps)

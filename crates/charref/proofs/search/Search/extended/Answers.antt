@@ -1,4 +1,4 @@
-use Rattle.charref.proofs.Names.{arith, ◌∷◌, true, length, ap, sym, ◌∙◌, subst, some_same, Entry, IsSortedTable}
+use Rattle.charref.proofs.Names.{arith, ◌∷◌, true, length, ap, sym, ◌∙◌, subst, some_same, Entry, IsSortedTable, common_steps}
 use Rattle.charref.proofs.Telling.{none_past_over, none_past_names}
 use Rattle.charref.proofs.Searching.{read_key, read_no_key}
 use Rattle.charref.proofs.search.Search.extended.Goals as goal
@@ -27,3 +27,6 @@ returns-else-low-high-clause-read c =
           ∙ ap (λ (y : Entry). length y.key) (some_same w.key.ensures.0 e (sym w.key.ensures.1 ∙ (rw (← c.table.view_is) at got))) ∙ size))
       | else-low-high-via-else-low-high w ↦ absurd (omega arith)
     ])
+
+pub key-requires : goal.key-requires
+key-requires c = grind (arith, common_steps)

@@ -1,4 +1,4 @@
-use Rattle.charref.proofs.Names.{arith, true≢false, sym, ◌∙◌, subst, IsTable, IsSortedTable, Settles}
+use Rattle.charref.proofs.Names.{arith, true≢false, sym, ◌∙◌, subst, IsTable, IsSortedTable, Settles, elements}
 use Rattle.charref.proofs.AtOnce.{no_first}
 use Rattle.charref.proofs.Fronts.{byte_at}
 use Rattle.charref.proofs.WholeNumbers.{sign_first}
@@ -40,3 +40,6 @@ returns-in-Some-whole_index c = let it = c.whole_key.ensures c.args.bytes.now c.
       read = it.read;
       none = λ none. absurd (true≢false none);
     }
+
+pub whole_key-requires : goal.whole_key-requires
+whole_key-requires c = grind (arith, elements)

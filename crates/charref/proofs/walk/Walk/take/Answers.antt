@@ -1,4 +1,4 @@
-use Rattle.charref.proofs.Names.{[], ◌∷◌, ◌++◌, characters, Name, IsHeldReference}
+use Rattle.charref.proofs.Names.{[], ◌∷◌, ◌++◌, characters, Name, IsHeldReference, arith, common_steps}
 use Rattle.charref.proofs.Numbers.{held_name, own, by_own}
 use Rattle.charref.proofs.Telling.{held_longer}
 use Rattle.charref.proofs.walk.Walk.take.Goals as goal
@@ -14,3 +14,6 @@ returns-clause-taken c = λ table in_value text p taken is.
           (held_longer walk.table.now walk.in_value c.in-Some.next text p c.args.ch c.goes_on.ensures.table is
           (c.in-Some.ensures.read (characters text) parts.0) (λ bytes now. c.goes_on.ensures.open bytes now c.if-goes_on.true));
     }
+
+pub returns-in-Goes-clause-taken : goal.returns-in-Goes-clause-taken
+returns-in-Goes-clause-taken c = grind (arith, common_steps)

@@ -9,3 +9,6 @@ pub returns-clause-kept : goal.returns-clause-kept
 returns-clause-kept c = λ k.
     let r : Result (Unit {0}) Refusal = Ok tt in
     gives-kept numbers r _ _ (returns-clause-done c) (missing-kept numbers c.args.node (map attribute_of c.args.attrs.items) c.args.self.now k)
+
+pub loop-attr-preserved : goal.loop-attr-preserved
+loop-attr-preserved c = grind (arith, common_steps)

@@ -1,4 +1,4 @@
-use Rattle.hadopt.proofs.Names.{rules, numbers, ℕ, Ok, Result, Refusal, arith, elements}
+use Rattle.hadopt.proofs.Names.{rules, numbers, ℕ, Ok, Result, Refusal, arith, elements, common_steps}
 use Rattle.hadopt.proofs.Inserting.{gives-kept, inserted-kept}
 use Rattle.hadopt.proofs.site.Site.insert_element.Goals as goal
 
@@ -12,3 +12,6 @@ returns-clause-kept c = λ k stands.
 
 pub invariant_of-self-2 : goal.invariant_of-self-2
 invariant_of-self-2 c = grind (arith, elements)
+
+pub returns-in_err-enter-clause-done : goal.returns-in_err-enter-clause-done
+returns-in_err-enter-clause-done c = grind (arith, common_steps)

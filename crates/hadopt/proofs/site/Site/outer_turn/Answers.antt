@@ -52,3 +52,9 @@ returns-in-None-clause-kept c = turn-keeps c.args.at c.args.subject c.args.self.
 
 pub returns-in_default-clause-kept : goal.returns-in_default-clause-kept
 returns-in_default-clause-kept c = grind (arith, common_steps)
+
+pub returns-in_default-clause-done : goal.returns-in_default-clause-done
+returns-in_default-clause-done c = grind (arith, common_steps)
+
+pub returns-in_ok-error-in-Some-furthest_block-clause-few : goal.returns-in_ok-error-in-Some-furthest_block-clause-few
+returns-in_ok-error-in-Some-furthest_block-clause-few c = grind (arith, common_steps)

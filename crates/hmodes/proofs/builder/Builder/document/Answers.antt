@@ -1,4 +1,4 @@
-use Rattle.hmodes.proofs.Vocabulary.{◌≡◌, ◌∙◌, ℕ, None, ap, sym, subst, arith, Limits, State, document_begins, BuilderStands}
+use Rattle.hmodes.proofs.Vocabulary.{◌≡◌, ◌∙◌, ℕ, None, ap, sym, subst, arith, Limits, State, document_begins, BuilderStands, common_steps}
 use Rattle.hmodes.specs.Reached.{document}
 use Rattle.hmodes.proofs.builder.Builder.document.Goals as goal
 
@@ -11,3 +11,6 @@ invariant_of-result c = λ e.
     subst (λ (root : ℕ). BuilderStands root now) (sym c.document-root.ensures.number)
     (subst (BuilderStands 0) (λ i. record { site = sym site i; control = sym c.control_in.ensures i; context = None; quirks_list = c.args.quirks.now })
     (record { reached = document c.args.quirks.now c.args.limits.tree; made = omega arith }))
+
+pub returns : goal.returns
+returns c = grind (arith, common_steps)

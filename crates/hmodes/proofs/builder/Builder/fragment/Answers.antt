@@ -1,4 +1,4 @@
-use Rattle.hmodes.proofs.Vocabulary.{◌∙◌, ℕ, [], Some, ap, ap₂, sym, subst, arith, State, context_mode, fragment, BuilderStands, control_in, form_of}
+use Rattle.hmodes.proofs.Vocabulary.{◌∙◌, ℕ, [], Some, ap, ap₂, sym, subst, arith, State, context_mode, fragment, BuilderStands, control_in, form_of, common_steps}
 use Rattle.hmodes.proofs.builder.Builder.fragment.Goals as goal
 
 pub invariant_of-result : goal.invariant_of-result
@@ -9,3 +9,6 @@ invariant_of-result c = λ e.
     subst (λ (root : ℕ). BuilderStands root now) (sym c.in_ok-site.ensures.1) (subst (BuilderStands 1)
     (λ i. record { site = sym c.in_ok-site.ensures.0 i; control = sym control i; context = Some c.args.context; quirks_list = [] })
     (record { reached = fragment c.args.context c.args.limits.tree; made = omega arith }))
+
+pub returns : goal.returns
+returns c = grind (arith, common_steps)

@@ -1,4 +1,4 @@
-use Rattle.hmodes.proofs.Vocabulary.{◌≡◌, ◌∙◌, ℕ, List, length, ap, sym, subst, refl, Ok, chars, err_from_is_err_and, chars-nil, placed, Hands, run_tokens, TakesToken, nil_from_length}
+use Rattle.hmodes.proofs.Vocabulary.{◌≡◌, ◌∙◌, ℕ, List, length, ap, sym, subst, refl, Ok, chars, err_from_is_err_and, chars-nil, placed, Hands, run_tokens, TakesToken, nil_from_length, arith, common_steps}
 use Rattle.hmodes.proofs.TextRun.{first_refused, is_with_references, rest_clean, rest_taken, some_clean}
 use Rattle.hmodes.proofs.builder.Builder.take_first.Goals as goal
 
@@ -35,3 +35,6 @@ pub returns : goal.returns
 returns c = rest_taken c.args.self.now c.take_text.new.self c.args.at c.args.run.now c.as_str-rest.result.now c.in-Some.ch c.utf8.run
     (cc (c.chars-chars.ensures.rest, c.in-Some.ensures.steps.0, c.as_str-rest.ensures)) c.rest_place-next.result c.rest_place-next.ensures
     c.in_ok-take_text.ensures c.take_run_by_one.result c.take_run_by_one.new.self c.take_run_by_one.ensures
+
+pub take_run_by_one-requires : goal.take_run_by_one-requires
+take_run_by_one-requires c = grind (arith, common_steps)

@@ -1,5 +1,5 @@
 use borrow.Author.Tests.{tests}
-use Rattle.hmodes.proofs.Vocabulary.{◌≡◌, ◌⊎◌, Memory, Refused, performed_for, subst, when, ℕ, Some, ap, ◌∙◌, sym, nat_eq, option_map, find_entry, without_entry, TreeInBody, SiteOf, with_items, with_error, with_site, State, Done, state_of, end, Do, ◌▸◌, name_is_listed, error, adopt_listed, InBody, rules}
+use Rattle.hmodes.proofs.Vocabulary.{◌≡◌, ◌⊎◌, Memory, Refused, performed_for, subst, when, ℕ, Some, ap, ◌∙◌, sym, nat_eq, option_map, find_entry, without_entry, TreeInBody, SiteOf, with_items, with_error, with_site, State, Done, state_of, end, Do, ◌▸◌, name_is_listed, error, adopt_listed, InBody, rules, arith, common_steps}
 use Rattle.hmodes.proofs.Flowing.{goes-on, refused-as, err-state, listed-refused, listed-done}
 use Rattle.hmodes.proofs.Ways.{when-so, when-not}
 use Rattle.hmodes.proofs.tree_construction.TreeConstruction.close_listed.Goals as goal
@@ -30,3 +30,6 @@ returns c = let s : State ℕ = state_of c.args.self.now in let s' : State ℕ =
     (sym c.in-Some.is ∙ c.find.ensures ∙ ap (λ (u : State ℕ). option_map (λ e. e.node) (find_entry nat_eq c.token_name-name.result u.site.items)) same)
     ∙ ap (λ (x : SiteOf ℕ). Done (with_site x s'))
     (sym (c.remove_entry.ensures.site ∙ ap (λ (x : SiteOf ℕ). with_items (without_entry c.in-Some.node x.items) x) c.leave.ensures.site)))
+
+pub adopt-requires : goal.adopt-requires
+adopt-requires c = grind (arith, common_steps)

@@ -1,5 +1,5 @@
 use borrow.Author.Tests.{tests}
-use Rattle.hmodes.proofs.Vocabulary.{◌≡◌, ◌⊎◌, Memory, Done, Refused, performed_for, when, ℕ, ap, ◌∙◌, Default, Err, subst, sym, numbers, adopted, reconstructed, StateGives, State, Flow, flow_of, with_site, perform, state_of, end, Do, ◌▸◌, has_in, error, adopt, reconstruct, InBody, rules, Nobr}
+use Rattle.hmodes.proofs.Vocabulary.{◌≡◌, ◌⊎◌, Memory, Done, Refused, performed_for, when, ℕ, ap, ◌∙◌, Default, Err, subst, sym, numbers, adopted, reconstructed, StateGives, State, Flow, flow_of, with_site, perform, state_of, end, Do, ◌▸◌, has_in, error, adopt, reconstruct, InBody, rules, Nobr, arith, common_steps}
 use Rattle.hmodes.proofs.Flowing.{on-site, goes-on, refused-then, refused-as, err-state}
 use Rattle.hmodes.proofs.Ways.{when-so, when-not}
 use Rattle.hmodes.proofs.tree_construction.TreeConstruction.close_nobr.Goals as goal
@@ -31,3 +31,6 @@ returns c = let s' = state_of c.error.new.self in let s'' : State ℕ = with_sit
     ∙ goes-on c.args.at (end c.token_name-name.result) (error InBody) (adopt ▸ reconstruct) (state_of c.args.self.now) s' c.in_ok-error.ensures.done
     ∙ goes-on c.args.at (end c.token_name-name.result) adopt reconstruct s' s'' (ap (flow_of s') c.in_ok-adopt.ensures.done)))
     (on-site c.reconstruct.result c.reconstruct.new.self s'' (reconstructed numbers c.args.at s''.site) c.reconstruct.ensures.done))
+
+pub adopt-requires : goal.adopt-requires
+adopt-requires c = grind (arith, common_steps)

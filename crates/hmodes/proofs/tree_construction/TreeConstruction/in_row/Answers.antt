@@ -9,3 +9,6 @@ returns-in_default c = grind (arith, common_steps)
 
 pub returns-in-End-Body : goal.returns-in-End-Body
 returns-in-End-Body c = grind (arith, common_steps)
+
+pub returns-then-not-in_scope-2 : goal.returns-then-not-in_scope-2
+returns-then-not-in_scope-2 c = grind (arith, common_steps)

@@ -3,3 +3,6 @@ use Rattle.hmodes.proofs.tree_construction.TreeConstruction.insert_formatting.Go
 
 pub returns-in_err-insert_formatting : goal.returns-in_err-insert_formatting
 returns-in_err-insert_formatting c = grind (arith, common_steps)
+
+pub returns : goal.returns
+returns c = grind (arith, common_steps)

@@ -1,4 +1,4 @@
-use Rattle.hmodes.proofs.Vocabulary.{◌≡◌, ◌∙◌, ℕ, List, [], sym, ap, subst, chars, characters, placed, slice_get, AreNodes, IsPlace, IsTextWithReferences, Place, Placed, Gives, each_of, put_each, Outcome, SiteOf, Flow, State, StateGives, with_control, with_site, state_of, encode_utf8_all, TreeConstruction}
+use Rattle.hmodes.proofs.Vocabulary.{◌≡◌, ◌∙◌, ℕ, List, [], sym, ap, subst, chars, characters, placed, slice_get, AreNodes, IsPlace, IsTextWithReferences, Place, Placed, Gives, each_of, put_each, Outcome, SiteOf, Flow, State, StateGives, with_control, with_site, state_of, encode_utf8_all, TreeConstruction, arith, common_steps}
 use Rattle.hmodes.proofs.Flowing.{on-site}
 use Rattle.hmodes.proofs.OnePut.{here}
 use Rattle.hmodes.proofs.Pending.{each_put, put_one, starts, written}
@@ -30,3 +30,6 @@ returns c = let t : TreeConstruction = c.args.self.now in let pending : List Pla
     let u : TreeConstruction = sym c.self.view_is i in with_site x (with_control (record u.control { pending = sym c.clear.ensures.items i }) (state_of u)))
     (subst (λ (f : Flow ℕ). StateGives r (with_site x s) f) (sym (each_put pending s c.requires.unfostered))
     (on-site r x s (put_each pending (here t.site) t.site) whole))
+
+pub returns-in_default : goal.returns-in_default
+returns-in_default c = grind (arith, common_steps)

@@ -10,3 +10,6 @@ invariant_of-self c = let front : c.in-Stored.attrs.now ≡ c.in_ok-attr-in-Stor
 
 pub returns-in_err-attr-in-Listed-clause-steps : goal.returns-in_err-attr-in-Listed-clause-steps
 returns-in_err-attr-in-Listed-clause-steps c = grind (arith, common_steps)
+
+pub get-requires : goal.get-requires
+get-requires c = grind arith

@@ -65,3 +65,12 @@ rewind-requires-clause-within c = grind (arith, elements)
 
 pub offset_bounds-deref_mut-from : goal.offset_bounds-deref_mut-from
 offset_bounds-deref_mut-from c = grind (arith, common_steps)
+
+pub slice_bounds-squeeze-count : goal.slice_bounds-squeeze-count
+slice_bounds-squeeze-count c = grind (arith, common_steps)
+
+pub slice_bounds-squeeze-start : goal.slice_bounds-squeeze-start
+slice_bounds-squeeze-start c = grind (arith, common_steps)
+
+pub rewind-requires-clause-wide : goal.rewind-requires-clause-wide
+rewind-requires-clause-wide c = grind (arith, common_steps)

@@ -6,3 +6,6 @@ invariant_of-self c = grind (arith, common_steps)
 
 pub returns : goal.returns
 returns c = grind (arith, common_steps)
+
+pub swap_at-requires-clause-within : goal.swap_at-requires-clause-within
+swap_at-requires-clause-within c = grind (arith, common_steps)

@@ -8,3 +8,6 @@ returns-in_ok-push-clause-run c = longer-is c.of-longer.result c.args.run _ _ c.
 
 pub returns-else-is_some-clause-run : goal.returns-else-is_some-clause-run
 returns-else-is_some-clause-run c = grind (arith, common_steps)
+
+pub returns-in_ok-push-clause-grown : goal.returns-in_ok-push-clause-grown
+returns-in_ok-push-clause-grown c = grind (arith, common_steps)

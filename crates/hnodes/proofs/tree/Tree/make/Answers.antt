@@ -1,4 +1,4 @@
-use Rattle.hnodes.proofs.Names.{given_is, rules}
+use Rattle.hnodes.proofs.Names.{given_is, rules, arith, common_steps}
 use Rattle.hnodes.proofs.Opened.{opened, grew, edited, added, makes, makes_nothing}
 use Rattle.hnodes.proofs.tree.Tree.make.Goals as goal
 
@@ -26,3 +26,6 @@ pub returns : goal.returns
 returns c = let o = opened c.self.inside c.args.self.now c.self.view_is c.self.invariant in
     rw c.in_ok-push.ensures.items (makes (given_is c.args.given) o c.content.ensures.grown c.in_ok-content.ensures.content c.loose.ensures c.args.at
     c.len-number.result (search rules) (search rules))
+
+pub returns-then-len-self : goal.returns-then-len-self
+returns-then-len-self c = grind (arith, common_steps)

@@ -1,4 +1,4 @@
-use Rattle.hnodes.proofs.Names.{with_text, refl, sym, ◌∙◌, length, arith, eqb-true, eqb-false, text}
+use Rattle.hnodes.proofs.Names.{with_text, refl, sym, ◌∙◌, length, arith, eqb-true, eqb-false, text, common_steps}
 use Rattle.hnodes.proofs.Opened.{on_err, opened, edited, edited_view, kept_there, unwritten, written}
 use Rattle.hnodes.proofs.Placed.{put-nothing, put-joins, put-makes}
 use Rattle.hnodes.proofs.tree.Tree.put_text.Goals as goal
@@ -36,3 +36,12 @@ returns-in_ok-node-in-None-clause-ok c = let some = eqb-false (length c.args.tex
     let made = put-makes c.args.text.now c.args.place c.args.self.now c.utf8.text (omega arith) c.text_before.ensures.nodes c.requires
     (sym c.text_before.ensures.text ∙ c.in-None.is) in
     rw (← made, c.insert.ensures, c.in_ok-node-in-None.ensures.ok, c.in_ok-node-in-None.ensures.number.0) refl
+
+pub insert-requires-clause-child_in : goal.insert-requires-clause-child_in
+insert-requires-clause-child_in c = grind (arith, common_steps)
+
+pub insert-requires-clause-not_inside : goal.insert-requires-clause-not_inside
+insert-requires-clause-not_inside c = grind (arith, common_steps)
+
+pub insert-requires-clause-place : goal.insert-requires-clause-place
+insert-requires-clause-place c = grind (arith, common_steps)

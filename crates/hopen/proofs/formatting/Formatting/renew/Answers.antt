@@ -35,3 +35,6 @@ renew-requires-clause-within c = grind (arith, common_steps)
 
 pub index-requires : goal.index-requires
 index-requires c = grind (arith, common_steps)
+
+pub renew-requires-clause-entry : goal.renew-requires-clause-entry
+renew-requires-clause-entry c = grind (arith, common_steps)

@@ -15,3 +15,9 @@ invariant_of-self c = let items = c.args.self.now.items.items in
 
 pub returns : goal.returns
 returns c = grind (arith, common_steps, get_or_read, renewed-items)
+
+pub set-requires-clause-within : goal.set-requires-clause-within
+set-requires-clause-within c = grind (arith, common_steps)
+
+pub clear-requires : goal.clear-requires
+clear-requires c = grind (arith, common_steps)

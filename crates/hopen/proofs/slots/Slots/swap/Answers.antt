@@ -24,3 +24,6 @@ swap-requires-then-is_some c = grind (arith, common_steps)
 
 pub swap-requires-2 : goal.swap-requires-2
 swap-requires-2 c = grind (arith, common_steps)
+
+pub swap-requires : goal.swap-requires
+swap-requires c = grind (arith, common_steps)

@@ -1,4 +1,4 @@
-use Rattle.hparse.proofs.Names.{grows_not, err_from_is_err_and, manner}
+use Rattle.hparse.proofs.Names.{grows_not, err_from_is_err_and, manner, arith, common_steps}
 use Rattle.hparse.proofs.Parsings.{has_read, names_of, ends_refused, ends_built}
 use Rattle.hparse.proofs.parser.Parser.finish.Goals as goal
 
@@ -11,3 +11,6 @@ returns-in_err-answer-clause-shows c = λ opts parse_case bytes h.
 pub returns-clause-shows : goal.returns-clause-shows
 returns-clause-shows c = λ opts parse_case bytes h. ends_built h c.end-answer.new.self (grows_not _) (names_of _ _ c.deref.ensures c.are_names.ensures.names)
     c.built.result (c.in_ok-answer.ensures (manner opts parse_case) h.began bytes (has_read h c.deref_mut.ensures.value)) c.built.ensures.built
+
+pub returns-clause-again : goal.returns-clause-again
+returns-clause-again c = grind (arith, common_steps)

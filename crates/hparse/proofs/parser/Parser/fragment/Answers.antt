@@ -1,4 +1,4 @@
-use Rattle.hparse.proofs.Names.{◌≡◌, [], true, ap, sym, ◌∙◌, subst, tag_named, RawKind, Building, BuilderWithOrigins, HasRead, Began, fragment, BeginsIn, a_fragment, takes_item_with_origins, options_of, raw_kind, is_context, makings_if}
+use Rattle.hparse.proofs.Names.{◌≡◌, [], true, ap, sym, ◌∙◌, subst, tag_named, RawKind, Building, BuilderWithOrigins, HasRead, Began, fragment, BeginsIn, a_fragment, takes_item_with_origins, options_of, raw_kind, is_context, makings_if, arith}
 use Rattle.htoken.specs.declared.token.Start.TheVariants as start
 use Rattle.hparse.proofs.parser.Parser.fragment.Goals as goal
 
@@ -22,3 +22,12 @@ returns c = let begun = c.in_ok-begun.ensures in let e = begun.builder_is ∙ c.
             began c.in_ok-begun.field-0.reading.value []) kind begun.has_read;
       },
     )
+
+pub returns-in_err-begun : goal.returns-in_err-begun
+returns-in_err-begun c = grind arith
+
+pub returns-in_err-builder : goal.returns-in_err-builder
+returns-in_err-builder c = grind arith
+
+pub returns-in_err-name : goal.returns-in_err-name
+returns-in_err-name c = grind arith

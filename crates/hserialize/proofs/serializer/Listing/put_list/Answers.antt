@@ -1,4 +1,4 @@
-use Rattle.hserialize.proofs.Names.{◌∙◌, ◌∷◌, ap, Enter, Leave}
+use Rattle.hserialize.proofs.Names.{◌∙◌, ◌∷◌, ap, Enter, Leave, arith, common_steps}
 use Rattle.hserialize.proofs.Output.{passed_on}
 use Rattle.hserialize.proofs.Wrote.{begun, goes_on, failed}
 use Rattle.hserialize.proofs.serializer.Listing.put_list.Goals as goal
@@ -23,3 +23,6 @@ pub returns-in_err-put_closing-in-Leave : goal.returns-in_err-put_closing-in-Lea
 returns-in_err-put_closing-in-Leave g c =
     passed_on _ _ _ _ c.from_residual-in_err-put_closing-in-Leave.ensures.1 (failed c.args.self.now _ _ (Leave c.in-Leave.node) _ _
     (c.in-Some.ensures.steps ∙ ap (λ v. v ∷ c.next.new.self) c.in-Leave.is) c.loop-visit.invariant _ c.in_err-put_closing-in-Leave.ensures)
+
+pub returns : goal.returns
+returns g c = grind (arith, common_steps)

@@ -1,4 +1,4 @@
-use Rattle.hserialize.proofs.Names.{rules}
+use Rattle.hserialize.proofs.Names.{rules, arith, common_steps}
 use Rattle.hserialize.proofs.Finished.{cut_short, finished}
 use Rattle.hserialize.proofs.serializer.Listing.write.Goals as goal
 
@@ -9,3 +9,6 @@ returns-in_err-put_list-clause-text g c = cut_short g.W.Target.written g.W.Targe
 pub returns-clause-text : goal.returns-clause-text
 returns-clause-text g c = finished g.W.Target.written g.W.Target.failed _ _ _ c.new-out.result _ c.new-out.ensures c.put_list.new.out c.finish.new.self
     c.finish.result c.in_ok-put_list.ensures c.finish.ensures.ends (search rules)
+
+pub returns-clause-flushed : goal.returns-clause-flushed
+returns-clause-flushed g c = grind (arith, common_steps)

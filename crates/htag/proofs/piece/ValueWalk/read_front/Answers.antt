@@ -1,4 +1,4 @@
-use Rattle.htag.proofs.Vocabulary.{◌≡◌, ◌≤◌, ◌∷◌, ◌++◌, ◌-◌, [], ℕ, List, true, false, None, length, take, drop, sym, ap, ◌∙◌, subst, arith, nat_tests, length-drop, length-take-le, list_all, placed, prefix_len, slice_index, string_bytes, take_all, IsRead, is_ascii, is_quoted_byte, front_of, IsQuietFront, rules, prefix_len_stops}
+use Rattle.htag.proofs.Vocabulary.{◌≡◌, ◌≤◌, ◌∷◌, ◌++◌, ◌-◌, [], ℕ, List, true, false, None, length, take, drop, sym, ap, ◌∙◌, subst, arith, nat_tests, length-drop, length-take-le, list_all, placed, prefix_len, slice_index, string_bytes, take_all, IsRead, is_ascii, is_quoted_byte, front_of, IsQuietFront, rules, prefix_len_stops, common_steps}
 use Rattle.htag.proofs.Ascii.{edge_of}
 use Rattle.htag.proofs.QuietValues.{first_amp, length-placed, reference_front, text_front}
 use Rattle.htag.proofs.piece.ValueWalk.read_front.Goals as goal
@@ -39,3 +39,9 @@ returns c = λ some.
     (subst (λ (x : List ℕ). list_all is_ascii (take k x) ≡ true) (rest_of all) c.in-Some.ensures.ascii) found missing fault no_run
     (λ at after. subst (λ (x : List ℕ). IsRead c.args.table.now false (placed at (take k x)) after found) (rest_of all) (c.in-Some.ensures.read at after))
     (string_bytes c.args.self.now.text))
+
+pub returns-then-found : goal.returns-then-found
+returns-then-found c = grind (arith, common_steps)
+
+pub returns-in_default : goal.returns-in_default
+returns-in_default c = grind (arith, common_steps)

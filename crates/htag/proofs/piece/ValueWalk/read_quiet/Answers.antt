@@ -1,4 +1,4 @@
-use Rattle.htag.proofs.Vocabulary.{ℕ, List, [], sym, ap, ◌∙◌, subst, arith, list_all, string_bytes, chars, is_clean, clean_rest, IsQuietFront}
+use Rattle.htag.proofs.Vocabulary.{ℕ, List, [], sym, ap, ◌∙◌, subst, arith, list_all, string_bytes, chars, is_clean, clean_rest, IsQuietFront, common_steps}
 use Rattle.htag.proofs.Ascii.{edge_of}
 use Rattle.htag.proofs.QuietValues.{more_read, nothing_read}
 use Rattle.htag.proofs.piece.ValueWalk.read_quiet.Goals as goal
@@ -18,3 +18,6 @@ pub loop-count-preserved : goal.loop-count-preserved
 loop-count-preserved c = more_read c.args.table.now c.args.run.now c.loop-count.count c.in_ok-more.more [] _ _ c.loop-count.invariant
     (subst (λ (x : List ℕ). IsQuietFront c.args.table.now x c.in_ok-more.more (string_bytes c.loop-count.self.text) (string_bytes c.read_front.new.self.text))
     c.range_from.ensures.value (c.in_ok-more.ensures (omega (arith, c.if-more-eq0.false))))
+
+pub returns-then-more-eq0 : goal.returns-then-more-eq0
+returns-then-more-eq0 c = grind (arith, common_steps)

@@ -1,4 +1,4 @@
-use Rattle.htag.proofs.Vocabulary.{◌++◌, ℕ, List, ap, ◌∙◌, take, arith, list_all, err_from_is_err_and, Placed, placed, IsInTag, subst, chars, is_clean, clean_rest, next_at}
+use Rattle.htag.proofs.Vocabulary.{◌++◌, ℕ, List, ap, ◌∙◌, take, arith, list_all, err_from_is_err_and, Placed, placed, IsInTag, subst, chars, is_clean, clean_rest, next_at, common_steps}
 use Rattle.htag.proofs.Ascii.{edge_of}
 use Rattle.htag.proofs.InRun.{front_more, known_in_rest, next_end, none_front}
 use Rattle.htag.proofs.Keeping.{looks_further}
@@ -38,3 +38,6 @@ returns-clause-takes c = λ body h. subst (λ (x : List Placed). IsInTag c.args.
     (body ++ placed c.args.at (chars (take c.loop-count.count c.args.run.now))) x c.loop-count.errors.items)
     (next_end c.args.at c.loop-count.count c.args.run.now (omega (arith, c.loop-count-test.false)))
     (c.loop-count.invariant.takes body (looks_further h (next_at c.args.at c.args.run.now 0)))
+
+pub returns-in_err-more-clause-grows : goal.returns-in_err-more-clause-grows
+returns-in_err-more-clause-grows c = grind (arith, common_steps)

@@ -1,4 +1,4 @@
-use Rattle.htag.proofs.Vocabulary.{◌≡◌, ◌≤◌, ◌++◌, ℕ, List, length, list_all, string_bytes, refl, sym, ap, ◌∙◌, arith, true, take, all_weaker, is_word_byte, grows_not, prefix_len, is_ascii, is_quoted_byte, front_of, IsValueRun}
+use Rattle.htag.proofs.Vocabulary.{◌≡◌, ◌≤◌, ◌++◌, ℕ, List, length, list_all, string_bytes, refl, sym, ap, ◌∙◌, arith, true, take, all_weaker, is_word_byte, grows_not, prefix_len, is_ascii, is_quoted_byte, front_of, IsValueRun, common_steps}
 use Rattle.htag.proofs.Ascii.{ascii_cut, edge_of}
 use Rattle.htag.proofs.InRun.{counted_all, none_front, word_ascii, words_in_name}
 use Rattle.htag.proofs.walk.TagWalk.take_whole.Goals as goal
@@ -44,3 +44,9 @@ returns-else-not-is_ascii c = c.take_in_value.ensures _ _ _ _
 
 pub returns-in-AttributeValueUnquoted : goal.returns-in-AttributeValueUnquoted
 returns-in-AttributeValueUnquoted c = c.take_in_value-in-AttributeValueUnquoted.ensures _ _ _ _
+
+pub returns-then-not-is_ascii : goal.returns-then-not-is_ascii
+returns-then-not-is_ascii c = grind (arith, common_steps)
+
+pub returns-in_err-push_str-in-TagName : goal.returns-in_err-push_str-in-TagName
+returns-in_err-push_str-in-TagName c = grind (arith, common_steps)

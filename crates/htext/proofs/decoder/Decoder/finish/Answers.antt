@@ -1,4 +1,4 @@
-use Rattle.htext.proofs.Names.{◌≡◌, ◌<◌, length, sym, ap, ◌∙◌, arith, Ok, Err, nat_tests, ℕ, ◌≤◌, ◌+◌, ◌-◌, Bool, true, false, List, [], ◌∷◌, ◌++◌, take, drop, refl, subst, append-nil, None, Some, Result, length-drop, take-append-drop, take_all, utf8_valid_len, utf8_error_len, Hands, Refusal, NotUtf8, Bom, BadBytes, Refuse, Replace, Front, NextBad, Waits, Refused, next_front, Read, Bad, normalized, ends_in_return, reads, text_of, valid_len, fitting_within, fitting, front_len, refusal_of, decoded, settled, reads_at, CharItem, items, DecoderHasRead, IsReading, IsUndecided, HandsOn, EndsDecoding, end_refused, end_reached, answer_at_end}
+use Rattle.htext.proofs.Names.{◌≡◌, ◌<◌, length, sym, ap, ◌∙◌, arith, Ok, Err, nat_tests, ℕ, ◌≤◌, ◌+◌, ◌-◌, Bool, true, false, List, [], ◌∷◌, ◌++◌, take, drop, refl, subst, append-nil, None, Some, Result, length-drop, take-append-drop, take_all, utf8_valid_len, utf8_error_len, Hands, Refusal, NotUtf8, Bom, BadBytes, Refuse, Replace, Front, NextBad, Waits, Refused, next_front, Read, Bad, normalized, ends_in_return, reads, text_of, valid_len, fitting_within, fitting, front_len, refusal_of, decoded, settled, reads_at, CharItem, items, DecoderHasRead, IsReading, IsUndecided, HandsOn, EndsDecoding, end_refused, end_reached, answer_at_end, common_steps}
 use Rattle.htext.proofs.decoder.Decoder.finish.Goals as goal
 use Rattle.htext.proofs.Valid.{refusal_past, error_bounds}
 use Rattle.htext.proofs.Parts.{reads_nil, reads_after_bad}
@@ -137,3 +137,6 @@ returns-clause-ends g c = rw (← c.self.view_is) (λ fed h.
     let test = sym c.is_empty.ensures ∙ c.if-is_empty.false in let some : 0 < length c.self.inside.undecoded.items = grind (arith, nat_tests) in
     ends_held g.S.CharSink.gives _ _ (Ok tt) _ _ _ _ _ fed c.deref.result.now h.front h.undecided (c.deref.ensures.value ∙ h.undecoded)
     (omega (arith, some, ap length c.deref.ensures.value)) c.in_default-end.ensures.refused c.in_default-end.ensures.replaced)
+
+pub returns-clause-whole : goal.returns-clause-whole
+returns-clause-whole g c = grind (arith, common_steps)

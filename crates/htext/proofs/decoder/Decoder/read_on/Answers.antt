@@ -1,4 +1,4 @@
-use Rattle.htext.proofs.Names.{◌+◌, ◌++◌, ℕ, List, take, drop, Err, ap, ◌∙◌, subst, take-append-drop, err_from_is_err_and, ReadsOn, take_more, take_rest}
+use Rattle.htext.proofs.Names.{◌+◌, ◌++◌, ℕ, List, take, drop, Err, ap, ◌∙◌, subst, take-append-drop, err_from_is_err_and, ReadsOn, take_more, take_rest, arith, common_steps}
 use Rattle.htext.proofs.Handing.{reads_append, reads_more}
 use Rattle.htext.proofs.decoder.Decoder.read_on.Goals as goal
 
@@ -20,3 +20,6 @@ returns-in_err-read_byte g c = let bytes = c.args.bytes.now in let i = c.loop-in
 pub loop-index-preserved : goal.loop-index-preserved
 loop-index-preserved g c = rw (take_more c.args.bytes.now c.loop-index.index 0 c.loop-index-test.true)
     (reads_append g.S.CharSink.gives _ _ _ _ _ _ _ _ _ c.loop-index.invariant c.in_ok-read_byte.ensures)
+
+pub returns : goal.returns
+returns g c = grind (arith, common_steps)

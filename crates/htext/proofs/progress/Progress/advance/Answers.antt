@@ -1,4 +1,4 @@
-use Rattle.htext.proofs.Names.{◌≤◌, ◌+◌, ◌-◌, ℕ, List, length, ap, ◌∙◌, arith, err_from_is_err_and, length-drop, take_rest}
+use Rattle.htext.proofs.Names.{◌≤◌, ◌+◌, ◌-◌, ℕ, List, length, ap, ◌∙◌, arith, err_from_is_err_and, length-drop, take_rest, common_steps}
 use Rattle.htext.proofs.Beginnings.{open_short}
 use Rattle.htext.proofs.Stopping.{what_waits, ahead_bounds, ahead_refused, ahead_waits}
 use Rattle.htext.proofs.Advancing.{text_is, within_all, next_text, stuck_next, next_bad, turn_stops, turn_more, refused_stops, waits_now}
@@ -87,3 +87,15 @@ loop-count-preserved g c = let bytes : List ℕ = c.args.bytes.now in
           turn_more g.S.CharSink.gives _ _ _ _ all _ _ _ _ _ _ more _ _ _ (next_bad g.S.CharSink.gives _ _ _ _ all _ _ _ _ _ _ more _ _ next) _
           (rw (c.in_ok-hand_text.ensures.read) at c.in_ok-hand_bad-in-Bad.ensures.handed));
     }
+
+pub slice_bounds-ahead-start : goal.slice_bounds-ahead-start
+slice_bounds-ahead-start g c = grind (arith, common_steps)
+
+pub slice_bounds-ahead-count : goal.slice_bounds-ahead-count
+slice_bounds-ahead-count g c = grind (arith, common_steps)
+
+pub loop-count-init : goal.loop-count-init
+loop-count-init g c = grind (arith, common_steps)
+
+pub hand_text-requires : goal.hand_text-requires
+hand_text-requires g c = grind (arith, common_steps)

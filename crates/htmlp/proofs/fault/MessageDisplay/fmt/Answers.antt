@@ -3,3 +3,6 @@ use Rattle.htmlp.proofs.fault.MessageDisplay.fmt.Goals as goal
 
 pub loop-word-preserved : goal.loop-word-preserved
 loop-word-preserved g c = grind (arith, common_steps)
+
+pub returns-in-Some-clause-writes : goal.returns-in-Some-clause-writes
+returns-in-Some-clause-writes g c = grind (arith, common_steps)

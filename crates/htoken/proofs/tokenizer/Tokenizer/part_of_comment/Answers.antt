@@ -1,4 +1,4 @@
-use Rattle.htoken.proofs.Names.{List, refl, sym, ap, ◌∙◌, subst, Err, arith, list_all, chars, placed, Placed, is_only_data, gives_item, err_is, Takes, rules}
+use Rattle.htoken.proofs.Names.{List, refl, sym, ap, ◌∙◌, subst, Err, arith, list_all, chars, placed, Placed, is_only_data, gives_item, err_is, Takes, rules, common_steps}
 use Rattle.htoken.proofs.Fronts.{cut_refused, placed_same, IsCalm, stands_over, comment_here, comment_stopped, comment_goes_on, data_front}
 use Rattle.htoken.proofs.tokenizer.Tokenizer.part_of_comment.Goals as goal
 
@@ -34,3 +34,6 @@ returns-in_err-take_run-clause-takes g c = rw (err_is c.from_residual.result _ c
 
 pub returns-clause-few : goal.returns-clause-few
 returns-clause-few g c = (omega (arith, c.if-count-eq0.false), (data_front c.args.run.now.text.now _ (search rules) c.count_data-count.ensures.counted).0)
+
+pub returns-in_err-take_run-clause-grows : goal.returns-in_err-take_run-clause-grows
+returns-in_err-take_run-clause-grows g c = grind (arith, common_steps)

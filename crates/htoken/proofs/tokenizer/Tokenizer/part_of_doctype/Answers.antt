@@ -1,4 +1,4 @@
-use Rattle.htoken.proofs.Names.{refl, sym, ap, ◌∙◌, subst, arith, list_all, chars, placed, is_data, gives_item, err_is, rules, cut_at}
+use Rattle.htoken.proofs.Names.{refl, sym, ap, ◌∙◌, subst, arith, list_all, chars, placed, is_data, gives_item, err_is, rules, cut_at, common_steps}
 use Rattle.htoken.proofs.Fronts.{placed_same, IsCalm, stands_over, doctype_goes_on, front_passes}
 use Rattle.htoken.proofs.Going.{held_in, ran_out_of}
 use Rattle.htoken.specs.declared.state.State.TheVariants as state
@@ -30,3 +30,6 @@ returns-in_err-take_run-clause-takes g c = rw (err_is c.from_residual.result _ c
 
 pub returns-clause-few : goal.returns-clause-few
 returns-clause-few g c = (omega (arith, c.if-count-eq0.false), cut_at _ c.args.run.now.text.now (search rules) c.floor_char_boundary-count.ensures.boundary)
+
+pub returns-in_err-take_run-clause-grows : goal.returns-in_err-take_run-clause-grows
+returns-in_err-take_run-clause-grows g c = grind (arith, common_steps)

@@ -48,3 +48,9 @@ returns-in_err-give_held-in_default-clause-takes g c =
 
 pub returns-in_err-push-in-Some-clause-grows : goal.returns-in_err-push-in-Some-clause-grows
 returns-in_err-push-in-Some-clause-grows g c = grind (arith, common_steps)
+
+pub returns-in_err-give_held-in_default-clause-grows : goal.returns-in_err-give_held-in_default-clause-grows
+returns-in_err-give_held-in_default-clause-grows g c = grind (arith, common_steps)
+
+pub returns-in_ok-push-in-Some-clause-grows : goal.returns-in_ok-push-in-Some-clause-grows
+returns-in_ok-push-in-Some-clause-grows g c = grind (arith, common_steps)

@@ -34,3 +34,6 @@ returns-clause-takes g c = λ table start before text taken grows h.
 
 pub returns-in_err-more-clause-grows : goal.returns-in_err-more-clause-grows
 returns-in_err-more-clause-grows g c = grind (arith, common_steps)
+
+pub take_part-requires : goal.take_part-requires
+take_part-requires g c = grind (arith, common_steps)

@@ -27,3 +27,6 @@ returns-in_err-begin_start_tag-in_default-2-clause-takes g c =
 
 pub returns-in_err-begin_start_tag-in_default-2-clause-grows : goal.returns-in_err-begin_start_tag-in_default-2-clause-grows
 returns-in_err-begin_start_tag-in_default-2-clause-grows g c = grind (arith, common_steps)
+
+pub returns-in_ok-begin_start_tag-in_default-2-clause-grows : goal.returns-in_ok-begin_start_tag-in_default-2-clause-grows
+returns-in_ok-begin_start_tag-in_default-2-clause-grows g c = grind (arith, common_steps)

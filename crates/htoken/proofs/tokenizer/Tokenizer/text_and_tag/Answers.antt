@@ -27,3 +27,6 @@ returns-clause-few g c = let again = subst (IsCut c.in_ok-more.more) c.after.ens
 
 pub take_tag_open-requires-clause-some : goal.take_tag_open-requires-clause-some
 take_tag_open-requires-clause-some g c = grind (arith, common_steps)
+
+pub returns-in_err-count-clause-grows : goal.returns-in_err-count-clause-grows
+returns-in_err-count-clause-grows g c = grind (arith, common_steps)

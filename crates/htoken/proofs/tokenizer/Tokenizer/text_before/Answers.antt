@@ -1,4 +1,4 @@
-use Rattle.htoken.proofs.Names.{◌≡◌, ◌<◌, ℕ, ◌+◌, List, [], ◌++◌, length, drop, sym, refl, ap, ◌∙◌, subst, arith, append-nil, get_or-drop, prefix_len-le-length, prefix_len_stops, IsCharBoundary-from_drop, prefix_len, IsUtf8, ParseError, Hands-append, is_text_byte, clean_rest, cut_more, bare_errors, IsBare, err_is, rules}
+use Rattle.htoken.proofs.Names.{◌≡◌, ◌<◌, ℕ, ◌+◌, List, [], ◌++◌, length, drop, sym, refl, ap, ◌∙◌, subst, arith, append-nil, get_or-drop, prefix_len-le-length, prefix_len_stops, IsCharBoundary-from_drop, prefix_len, IsUtf8, ParseError, Hands-append, is_text_byte, clean_rest, cut_more, bare_errors, IsBare, err_is, rules, common_steps}
 use Rattle.htoken.proofs.InText.{bare_cut_of, bare_within, front_bare, front_on, front_text, length_left}
 use Rattle.htoken.proofs.tokenizer.Tokenizer.text_before.Goals as goal
 
@@ -62,3 +62,6 @@ tell_bare-requires-clause-within g c = bare_within c.in-Text.ensures
 
 pub overflow_add-count : goal.overflow_add-count
 overflow_add-count g c = omega (arith, bare_within c.in-Text.ensures, c.range_from-rest.ensures.len, c.loop-count.invariant.so.front.cut.within)
+
+pub returns-in-Whole-clause-whole : goal.returns-in-Whole-clause-whole
+returns-in-Whole-clause-whole g c = grind (arith, common_steps)

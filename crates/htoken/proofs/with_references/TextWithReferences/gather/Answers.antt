@@ -1,4 +1,4 @@
-use Rattle.htoken.proofs.Names.{rules}
+use Rattle.htoken.proofs.Names.{rules, arith, common_steps}
 use Rattle.htoken.proofs.WithReferences.{gathered_none, whole_of, few_left}
 use Rattle.htoken.proofs.with_references.TextWithReferences.gather.Goals as goal
 
@@ -9,3 +9,6 @@ add_reference-requires-clause-left c =
 pub returns-2-clause-gathered : goal.returns-2-clause-gathered
 returns-2-clause-gathered c =
     gathered_none c.args.table.now c.args.kind c.args.run.now.text.now c.args.run.now.at (search rules) _ c.clear-2.ensures.items c.clear.ensures
+
+pub add_reference-requires-clause-within : goal.add_reference-requires-clause-within
+add_reference-requires-clause-within c = grind (arith, common_steps)

@@ -76,3 +76,6 @@ pub overflow_add-count-in-Text : goal.overflow_add-count-in-Text
 overflow_add-count-in-Text c =
     let cut = bare_cut_of c.range_from-rest.result.now c.in-Text.size c.in-Text.ensures c.range_from-rest.utf8 in
     omega (arith, cut.within, c.range_from-rest.ensures.len, c.args.run.now.within)
+
+pub returns-in-Open-clause-ends : goal.returns-in-Open-clause-ends
+returns-in-Open-clause-ends c = grind (arith, common_steps)

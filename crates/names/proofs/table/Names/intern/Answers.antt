@@ -1,4 +1,4 @@
-use Rattle.names.proofs.Vocabulary.{slice_get, slice_get_within, ap, ◌∙◌, Texts}
+use Rattle.names.proofs.Vocabulary.{slice_get, slice_get_within, ap, ◌∙◌, Texts, arith, common_steps}
 use Rattle.names.proofs.KnownTags.{tag_of-named}
 use Rattle.names.proofs.TableLemmas.{are_names, grows-interned, interned-there}
 use Rattle.names.proofs.table.Names.intern.Goals as goal
@@ -19,3 +19,6 @@ returns-clause-tag c = tag_of-named _ c.in_ok-id.id c.args.text.now (are_names _
 
 pub returns-clause-grows : goal.returns-clause-grows
 returns-clause-grows c = let g = grows-interned c.args.self.now c.in_ok-id.id c.args.text.now in (g.0, c.self.view_is ∙ c.in_ok-id.ensures.added ∙ g.1)
+
+pub returns-in_err-id-clause-grows : goal.returns-in_err-id-clause-grows
+returns-in_err-id-clause-grows c = grind (arith, common_steps)

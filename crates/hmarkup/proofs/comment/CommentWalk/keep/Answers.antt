@@ -1,0 +1,5 @@
+use Rattle.hmarkup.proofs.Names.{arith, common_steps}
+use Rattle.hmarkup.proofs.comment.CommentWalk.keep.Goals as goal
+
+pub returns : goal.returns
+returns c = grind (arith, common_steps)

@@ -1,0 +1,5 @@
+use Rattle.hmodes.proofs.Vocabulary.{arith, common_steps}
+use Rattle.hmodes.proofs.builder.joined.Goals as goal
+
+pub returns : goal.returns
+returns c = grind (arith, common_steps)

@@ -1,0 +1,5 @@
+use Rattle.htmlp.proofs.Names.{arith, common_steps}
+use Rattle.htmlp.proofs.commands.explain.Goals as goal
+
+pub returns-clause-rule : goal.returns-clause-rule
+returns-clause-rule c = grind (arith, common_steps)
