@@ -1,11 +1,12 @@
 -- Characters that are put after the formatting elements were reconstructed: the first of them reconstructs these.
-use Rattle.hmodes.proofs.Vocabulary.{◌≡◌, ◌≢◌, inl, inr, ℕ, Bool, true, false, List, ◌∷◌, None, Result, Ok, Err, refl, sym, ◌∙◌, ap, subst, ◌&&◌, ◌==◌, false≢true, characters, Hands, Placed, Refusal, run_tokens, Gives, put_each, numbers, reconstructed, Outcome, Goes, SiteOf, and_then, OnGoes, perform, flow_of, with_site, State, Token, character, flow_then, Rule, Chain, ends, refuses, goes_again, Step, drops, goes, is_dropped, step_begun, put, Building, TakesToken, StepGives, refused_by, AreSome, before_text, puts_in, put_all, Mode, Alone, char_rule, is_for_text, rules}
+use Rattle.hmodes.proofs.Vocabulary.{◌≡◌, ◌≢◌, inl, inr, ℕ, Bool, true, false, List, ◌∷◌, None, Result, Ok, Err, refl, sym, ◌∙◌, ap, subst, ◌&&◌, ◌==◌, false≢true, characters, Hands, Placed, Refusal, run_tokens, Gives, put_each, numbers, reconstructed, Outcome, Goes, SiteOf, and_then, OnGoes, perform, flow_of, with_site, State, Token, character, flow_then, Rule, Chain, ends, refuses, goes_again, Step, drops, goes, is_dropped, step_begun, put, Building, TakesToken, StepGives, refused_by, AreSome, before_text, puts_in, put_all, Mode, Alone, char_rule, is_for_text}
 use Rattle.htoken.specs.declared.token.Token.TheVariants as code
 use Rattle.hadopt.specs.Site as site
 use Rattle.hmodes.specs.declared.mode.Mode.TheVariants as mode
 use Rattle.hmodes.proofs.InRun.{run_put, taken, takes-on}
 use Rattle.hmodes.proofs.OnePut.{here, rule-char, rule_puts, puts_now}
 use Rattle.hmodes.proofs.Renewed.{text-begins}
+use Rattle.hmodes.proofs.Every.{never}
 
 -- a mode whose text is not that of an element reconstructs the formatting elements
 pub before-other : (at : ℕ) (m : Mode) (x : SiteOf ℕ) → m ≢ mode.Text → before_text at m x ≡ reconstructed numbers at x
@@ -44,7 +45,10 @@ module _ (at c : ℕ) (s : State ℕ) where
   starts : (m : Mode) → puts_in m ≡ true
       → perform numbers at (character c) (char_rule m) s ≡ flow_then (flow_of s (before_text at m s.site)) (perform numbers at (character c) put)
   starts mode.Text h = refl
-  starts _ h = first_of (cc, search rules)
+  starts mode.InBody h = refl
+  starts mode.InCaption h = refl
+  starts mode.InCell h = refl
+  starts _ h = never h
 
 module _ (b : Building) (free : b.refused ≡ None) (off : b.state.site.foster ≡ false) (keeps_lf : b.state.control.drop_lf ≡ false)
     (puts : puts_in b.state.control.mode ≡ true) (p : Placed) (some : (p.ch == 0) ≡ false) where
@@ -106,7 +110,7 @@ module _ (b : Building) (free : b.refused ≡ None) (off : b.state.site.foster �
     go : (o : Outcome (SiteOf ℕ)) → before ≡ o → (answer : Result (Unit {0}) Refusal) → Gives answer x (and_then before rest)
         → Hands TakesToken b (run_tokens (p ∷ ps)) answer (after x answer)
     go (Goes y) is answer g = whole y is ps answer x all (subst (λ (o : Outcome (SiteOf ℕ)). Gives answer x (and_then o rest)) is g)
-    go (site.Refused r) is (Ok u) g = absurd cc
+    go (site.Refused r) is (Ok u) g = absurd (subst (OnGoes (λ y. ⊥)) (sym (ap (λ (o : Outcome (SiteOf ℕ)). and_then o rest) is) ∙ g) tt)
     go (site.Refused r) is (Err e) (inl m) = wrong e x ps (inl m)
     go (site.Refused r) is (Err e) (inr h) = let same : site.Refused r ≡ site.Refused e = sym (ap (λ (o : Outcome (SiteOf ℕ)). and_then o rest) is) ∙ h in
         wrong e x ps (inr (goes kept (refuses (rule-is (site.Refused e) (is ∙ same)))))

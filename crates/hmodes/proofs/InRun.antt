@@ -1,5 +1,5 @@
 -- Characters of a run, each of which is put where the first one is.
-use Rattle.hmodes.proofs.Vocabulary.{StepGives, ◌≡◌, inl, inr, ℕ, Bool, true, false, List, [], ◌∷◌, Option, Some, None, Result, Ok, Err, refl, sym, ◌∙◌, ap, subst, ◌&&◌, ◌==◌, nat_le, is_none, if◌then◌else◌, MatchOption, characters, Hands, Placed, Refusal, TooManyNodes, run_tokens, Nodes, add_char, text_before, Place, Gives, numbers, Outcome, Goes, SiteOf, flow_of, with_site, AreSome, State, Token, character, Rule, Chain, ends, refuses, Step, goes, step_begun, token_of, token_at, Building, TakesTokenAt, TakesToken, BuilderTakesOn, BuilderStaysRefused, BuilderStands, refused_by, Alone, Handed, token_in}
+use Rattle.hmodes.proofs.Vocabulary.{StepGives, ◌≡◌, inl, inr, ℕ, Bool, true, false, List, [], ◌∷◌, Option, Some, None, Result, Ok, Err, refl, sym, ◌∙◌, ap, subst, ◌&&◌, ◌==◌, nat_le, is_none, if◌then◌else◌, MatchOption, characters, Hands, Placed, Refusal, TooManyNodes, run_tokens, Nodes, add_char, text_before, Place, Gives, numbers, Outcome, Goes, SiteOf, OnGoes, flow_of, with_site, AreSome, State, Token, character, Rule, Chain, ends, refuses, Step, goes, step_begun, token_of, token_at, Building, TakesTokenAt, TakesToken, BuilderTakesOn, BuilderStaysRefused, BuilderStands, refused_by, Alone, Handed, token_in}
 use Rattle.htoken.specs.declared.token.Token.TheVariants as code
 use Rattle.hadopt.specs.Site as site
 use Rattle.hadopt.specs.Inserts as inserts
@@ -96,7 +96,7 @@ module _ (b : Building) (free : b.refused ≡ None) (off : b.state.site.foster �
           → inserts.put_each (p ∷ ps) to (site_with v) ≡ outcome_of answer → HandsRun old (p ∷ ps) answer
       put_first p ps v old h some rest e = by_room (is_full v) refl where
         stops : (a : Result (Unit {0}) Refusal) → is_full v ≡ true → site.Refused (TooManyNodes p.at) ≡ outcome_of a → HandsRun old (p ∷ ps) a
-        stops (Ok u) full is = absurd cc
+        stops (Ok u) full is = absurd (subst (OnGoes (λ y. ⊥)) is tt)
         stops (Err r) full is = let step = step_with p.at p.ch v old h some (site.Refused r) (ap (Put p v) full ∙ is) in
             (Err r, after_put x (Some r), wrong p v old h x r (inr step), (refl, refl))
 

@@ -1,5 +1,5 @@
 -- Programs that never have the token go again, save no mode and adopt nothing: what refuses them is a limit, and no node is lost.
-use Rattle.hmodes.proofs.Vocabulary.{cond_both, ◌≡◌, inl, inr, ℕ, zero, suc, Bool, true, false, leb, List, [], Option, Some, None, refl, length, is_none, ◌&&◌, option_map_or, Attribute, What, element, text_before, Place, LastIn, before, OpenNode, EntryOf, entry_at, TooManyNodes, Naming, Outcome, Goes, SiteOf, and_then, stack, trees, from_top, open_node, place, made, added, inserted, with_open, stops_going_back, renewed, renewed_each, Do, again, again_as, save_mode, insert, insert_named, insert_root, insert_root_named, insert_comment, comment_in_document, comment_in_first, insert_doctype, put, push_head, reconstruct, adopt, adopt_listed, Token, State, Flow, token_name, token_attrs, token_text, token_char, doctype_node, perform, flow_of, head_pushed, current_node, IsLimit, ◌≤◌, cond, arith, char_into, TreeInBody, is, is_named, in_scope, without_implied, error_unless, current_is, close_p, is_special}
+use Rattle.hmodes.proofs.Vocabulary.{cond_both, ◌≡◌, inl, inr, ℕ, zero, suc, Bool, true, false, leb, List, [], Option, Some, None, refl, length, is_none, ◌&&◌, option_map_or, Attribute, What, element, text_before, Place, LastIn, before, OpenNode, EntryOf, entry_at, TooManyNodes, Naming, Outcome, Goes, SiteOf, and_then, stack, trees, from_top, open_node, place, made, added, inserted, with_open, stops_going_back, renewed, renewed_each, Do, ◌▸◌, when, unless, choose, fostered, each_pending, again, again_as, save_mode, insert, insert_named, insert_root, insert_root_named, insert_comment, comment_in_document, comment_in_first, insert_doctype, put, push_head, reconstruct, adopt, adopt_listed, Token, State, Flow, token_name, token_attrs, token_text, token_char, doctype_node, perform, flow_of, head_pushed, current_node, IsLimit, ◌≤◌, cond, arith, char_into, TreeInBody, is, is_named, in_scope, without_implied, error_unless, current_is, close_p, is_special}
 use Rattle.hnodes.specs.Forest as forest
 use Rattle.names.specs.declared.tag.Tag.TheVariants as tag
 use Rattle.hadopt.specs.Site as site
@@ -7,6 +7,7 @@ use Rattle.hadopt.specs.Inserts as inserts
 use Rattle.hadopt.specs.Closes.{other_end}
 use Rattle.hmodes.specs.Words as word
 use Rattle.hmodes.proofs.Programs.{Comes, SiteComes, each_word, is_word, perform-comes}
+use Rattle.hmodes.proofs.Every.{never}
 
 abbrev mild_word : Bool → Do → Bool
 mild_word v again = false
@@ -103,7 +104,18 @@ module _ {N : Type 0} (n : Naming N) where
     mild v close_p w e at t s h =
         (h.0, error-made _ n at (current_is (is n tag.P) (without_implied n (is n tag.P) s.site)) (without_implied n (is n tag.P) s.site) h.1)
     mild v word.other_end w e at t s h = (h.0, other-made _ n at (token_name n t) s.site h.1)
-    mild v p w e at t s h = first_of (cc, assumption)
+    mild v again w e at t s h = never e
+    mild v (again_as x) w e at t s h = never e
+    mild v save_mode w e at t s h = never e
+    mild v adopt w e at t s h = never e
+    mild v adopt_listed w e at t s h = never e
+    mild v (p ▸ q) w e at t s h = never w
+    mild v (when question p) w e at t s h = never w
+    mild v (unless question p) w e at t s h = never w
+    mild v (choose question p q) w e at t s h = never w
+    mild v (fostered p) w e at t s h = never w
+    mild v (each_pending p) w e at t s h = never w
+    mild v p w e at t s h = h
 
   pub perform-mild : (p : Do) → is_mild p ≡ true → (at : ℕ) (t : Token N) (s : State N) → Mild s (perform n at t p s)
   perform-mild p e at t s =

@@ -1,5 +1,6 @@
 -- A character that is put as it is.
 use Rattle.hmodes.proofs.Vocabulary.{◌≡◌, ℕ, Bool, true, false, List, [], ◌∷◌, length, refl, ◌∙◌, ap, ◌==◌, if◌then◌else◌, eqb-true, is_space, Nodes, Place, LastIn, before, is_open, current, Listed, marker, entry, numbers, SiteOf, stack, open_node, place, stops_going_back, renewed_each, character_in_body, perform, flow_of, rule_of, State, character, flow_then, Rule, put, Mode, Do, char_rule, is_for_text}
+use Rattle.hmodes.proofs.Every.{never}
 use Rattle.hadopt.specs.Inserts as inserts
 use Rattle.hmodes.specs.declared.token_kind.TokenKind.TheVariants.{Ws, Char, Nul}
 use Rattle.hmodes.specs.declared.mode.Mode.TheVariants as mode
@@ -7,8 +8,16 @@ use Rattle.hmodes.specs.declared.mode.Mode.TheVariants as mode
 -- a mode that is for text goes by the rule of its text, for white space and for others
 rule_is : (space : Bool) (m : Mode) → is_for_text m ≡ true → rule_of m (if space then Ws else Char) ≡ char_rule m
 rule_is true mode.Text h = refl
+rule_is true mode.InBody h = refl
+rule_is true mode.InCaption h = refl
+rule_is true mode.InCell h = refl
+rule_is true mode.InTableText h = refl
 rule_is false mode.Text h = refl
-rule_is _ _ h = cc
+rule_is false mode.InBody h = refl
+rule_is false mode.InCaption h = refl
+rule_is false mode.InCell h = refl
+rule_is false mode.InTableText h = refl
+rule_is _ _ h = never h
 
 module _ (at c : ℕ) (s : State ℕ) where
   pub rule-char : (c == 0) ≡ false → is_for_text s.control.mode ≡ true
@@ -43,7 +52,10 @@ module _ (at c : ℕ) (s : State ℕ) where
 
   is_put : (m : Mode) → puts_now m s.site ≡ true → perform numbers at (character c) (char_rule m) s ≡ flow_of s (inserts.put at c (place numbers s.site) s.site)
   is_put mode.Text h = refl
-  is_put _ h = first_of (cc, search in_body)
+  is_put mode.InBody h = in_body h
+  is_put mode.InCaption h = in_body h
+  is_put mode.InCell h = in_body h
+  is_put _ h = never h
 
   pub rule_puts : (c == 0) ≡ false → puts_now s.control.mode s.site ≡ true
       → Rule numbers at (character c) s ≡ flow_of s (inserts.put at c (place numbers s.site) s.site)

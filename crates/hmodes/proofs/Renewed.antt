@@ -2,6 +2,7 @@
 use Rattle.hmodes.proofs.Vocabulary.{◌≡◌, ℕ, zero, suc, Bool, true, List, [], ◌∷◌, Option, Some, None, length, refl, ap, ◌∙◌, ◌==◌, ◌||◌, if◌then◌else◌, option_map_or, eq-eqb, Attribute, Place, before, changed_at, is_open, EntryOf, Listed, marker, entry, entry_at, for_node, inserted, numbers, place, stops_going_back, renewed, renewed_each, reconstructed, Goes, SiteOf, stack, OnGoes, goes-then, goes-map, before_text, puts_in, Mode, inserted-goes}
 use Rattle.hmodes.specs.declared.mode.Mode.TheVariants as mode
 use Rattle.hmodes.proofs.OnePut.{is_reconstructed, puts_now}
+use Rattle.hmodes.proofs.Every.{never}
 
 -- a new element leaves foster parenting as it is, and is open then
 module _ (s : SiteOf ℕ) where
@@ -65,4 +66,7 @@ module _ (at : ℕ) where
   -- so a character is put as it is
   pub text-begins : (m : Mode) (s : SiteOf ℕ) → puts_in m ≡ true → OnGoes (Begins m s) (before_text at m s)
   text-begins mode.Text s h = (refl, refl)
-  text-begins _ s h = let done = reconstructed-done s in first_of (cc, assumption)
+  text-begins mode.InBody s h = reconstructed-done s
+  text-begins mode.InCaption s h = reconstructed-done s
+  text-begins mode.InCell s h = reconstructed-done s
+  text-begins _ s h = never h

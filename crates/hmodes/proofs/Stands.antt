@@ -119,10 +119,10 @@ module _ {N : Type 0} (n : Naming N) (tells : TellsTables n) where
       by_test (n.same x (n.known tag.Table)) (λ v. v ≡ false) (λ e. absurd (list-plain (n.tag x) may (tells x e))) (λ e. refl)
   plain-token (character c) may = go (c == 0) (is_space c) may where
     go : (u v : Bool) → may_list (cond u Nul (cond v Ws Char)) ≡ true → Plain n (n.known Html)
-    go true v e = cc
-    go false true e = cc
-    go false false e = cc
-  plain-token t may = cc
+    go true v e = never e
+    go false true e = never e
+    go false false e = never e
+  plain-token t may = never may
 
   -- what a rule that opens the head again asks: the head is in the document's tree, and no open node is inside it
   pub record HeadIsOut (h : ℕ) (s : SiteOf N) : Type 0 where

@@ -114,6 +114,10 @@ pub test_parts : (nothing : Bool) (refused : Option Refusal) (whole : Bool) → 
 test_parts false None whole h = (refl, refl, h)
 test_parts _ _ _ h = absurd cc
 
+-- what is left of a run whose first character was taken, as `as_str` gives it
+pub rest_is : {run chars left rest : List ℕ} (c : ℕ) → chars ≡ run → chars ≡ encode_utf8 c ++ left → rest ≡ left → run ≡ encode_utf8 c ++ rest
+rest_is c from is now = cc
+
 -- what is left of a run of plain characters is one
 pub rest_clean : (run rest : List ℕ) (c : ℕ) → IsUtf8 run → run ≡ encode_utf8 c ++ rest → list_all is_clean (chars run) ≡ true
     → list_all is_clean (chars rest) ≡ true

@@ -1,5 +1,5 @@
 use Rattle.hmodes.proofs.Vocabulary.{◌≡◌, ◌∙◌, ℕ, List, length, ap, sym, subst, refl, Ok, chars, err_from_is_err_and, chars-nil, placed, Hands, run_tokens, TakesToken, nil_from_length, arith, common_steps}
-use Rattle.hmodes.proofs.TextRun.{first_refused, is_with_references, rest_clean, rest_taken, some_clean}
+use Rattle.hmodes.proofs.TextRun.{first_refused, is_with_references, rest_clean, rest_is, rest_taken, some_clean}
 use Rattle.hmodes.proofs.builder.Builder.take_first.Goals as goal
 
 pub returns-in_default : goal.returns-in_default
@@ -14,26 +14,26 @@ returns-in_err-take_text c = let e = err_from_is_err_and c.from_residual.result 
 
 pub put_run-requires-clause-some : goal.put_run-requires-clause-some
 put_run-requires-clause-some c = some_clean (chars c.as_str-rest.result.now) (rest_clean c.args.run.now c.as_str-rest.result.now c.in-Some.ch c.utf8.run
-    (cc (c.chars-chars.ensures.rest, c.in-Some.ensures.steps.0, c.as_str-rest.ensures)) c.requires.clean)
+    (rest_is _ c.chars-chars.ensures.rest c.in-Some.ensures.steps.0 c.as_str-rest.ensures) c.requires.clean)
 
 pub pend_run-requires-clause-some : goal.pend_run-requires-clause-some
 pend_run-requires-clause-some c = some_clean (chars c.as_str-rest.result.now) (rest_clean c.args.run.now c.as_str-rest.result.now c.in-Some.ch c.utf8.run
-    (cc (c.chars-chars.ensures.rest, c.in-Some.ensures.steps.0, c.as_str-rest.ensures)) c.requires.clean)
+    (rest_is _ c.chars-chars.ensures.rest c.in-Some.ensures.steps.0 c.as_str-rest.ensures) c.requires.clean)
 
 pub returns-then-puts_run : goal.returns-then-puts_run
 returns-then-puts_run c = rest_taken c.args.self.now c.take_text.new.self c.args.at c.args.run.now c.as_str-rest.result.now c.in-Some.ch c.utf8.run
-    (cc (c.chars-chars.ensures.rest, c.in-Some.ensures.steps.0, c.as_str-rest.ensures)) c.rest_place-next.result c.rest_place-next.ensures
+    (rest_is _ c.chars-chars.ensures.rest c.in-Some.ensures.steps.0 c.as_str-rest.ensures) c.rest_place-next.result c.rest_place-next.ensures
     c.in_ok-take_text.ensures c.put_run.result c.put_run.new.self (c.put_run.ensures
     (placed c.rest_place-next.result (chars c.as_str-rest.result.now)) (is_with_references c.rest_place-next.result c.as_str-rest.result.now))
 
 pub returns-then-pends_run : goal.returns-then-pends_run
 returns-then-pends_run c = rest_taken c.args.self.now c.take_text.new.self c.args.at c.args.run.now c.as_str-rest.result.now c.in-Some.ch c.utf8.run
-    (cc (c.chars-chars.ensures.rest, c.in-Some.ensures.steps.0, c.as_str-rest.ensures)) c.rest_place-next.result c.rest_place-next.ensures
+    (rest_is _ c.chars-chars.ensures.rest c.in-Some.ensures.steps.0 c.as_str-rest.ensures) c.rest_place-next.result c.rest_place-next.ensures
     c.in_ok-take_text.ensures c.pend_run.result c.pend_run.new.self c.pend_run.ensures
 
 pub returns : goal.returns
 returns c = rest_taken c.args.self.now c.take_text.new.self c.args.at c.args.run.now c.as_str-rest.result.now c.in-Some.ch c.utf8.run
-    (cc (c.chars-chars.ensures.rest, c.in-Some.ensures.steps.0, c.as_str-rest.ensures)) c.rest_place-next.result c.rest_place-next.ensures
+    (rest_is _ c.chars-chars.ensures.rest c.in-Some.ensures.steps.0 c.as_str-rest.ensures) c.rest_place-next.result c.rest_place-next.ensures
     c.in_ok-take_text.ensures c.take_run_by_one.result c.take_run_by_one.new.self c.take_run_by_one.ensures
 
 pub take_run_by_one-requires : goal.take_run_by_one-requires

@@ -4,9 +4,6 @@ use Rattle.html_c.proofs.page.Page.put.Goals as goal
 pub put_errors-requires : goal.put_errors-requires
 put_errors-requires c = grind (arith, common_steps)
 
-pub returns-clause-put : goal.returns-clause-put
-returns-clause-put c = grind (arith, common_steps)
-
 pub put_origins-requires : goal.put_origins-requires
 put_origins-requires c = grind (arith, common_steps)
 

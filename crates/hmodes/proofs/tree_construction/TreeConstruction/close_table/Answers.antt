@@ -1,5 +1,0 @@
-use Rattle.hmodes.proofs.Vocabulary.{arith, common_steps}
-use Rattle.hmodes.proofs.tree_construction.TreeConstruction.close_table.Goals as goal
-
-pub returns : goal.returns
-returns c = grind (arith, common_steps)
