@@ -23,10 +23,10 @@ returns-then-is_ascii c = let run = c.args.run.now in let all = c.as_bytes-bytes
     let long : 1 < length all = search rules in
     let k = c.in-Some.field-0-1 in
     let few = subst (λ (x : List ℕ). (0 < k) × (k ≤ length x)) (rest_of all) c.in-Some.ensures.few in
-    let counted : c.alphanumeric_run-size.result ≡ prefix_len is_alphanumeric bytes = cc (c.alphanumeric_run-size.ensures, rest_of all) in
+    let counted = c.alphanumeric_run-size.ensures ∙ ap (prefix_len is_alphanumeric) (rest_of all) in
     let left : prefix_len is_alphanumeric bytes < length bytes = omega (arith, c.if-size-bytes.true, counted, length-drop 1 all, long) in
-    let ascii : is_ascii (slice_index bytes (prefix_len is_alphanumeric bytes)) ≡ true = cc
-    (get_or-drop 1 all (prefix_len is_alphanumeric bytes) 0, c.is_ascii-then-size-bytes.ensures, c.if-is_ascii.true) in
+    let ascii : is_ascii (slice_index bytes (prefix_len is_alphanumeric bytes)) ≡ true = rw (← counted)
+    (ap is_ascii (get_or-drop 1 all c.alphanumeric_run-size.result 0) ∙ sym c.is_ascii-then-size-bytes.ensures ∙ c.if-is_ascii.true) in
     rw counted (letters_bare c.args.table.now c.args.kind bytes c.in-Some.found k few.0 few.1 c.if-found.true
     (λ at after. rw (← (rest_of all)) (c.in-Some.ensures.read at after)) run (sym c.as_bytes-bytes.ensures.value ∙ first_amp all (omega (arith, long)) amp) may
     left ascii)

@@ -4,10 +4,10 @@ use Rattle.htoken.proofs.tokenizer.Tokenizer.text_before.Goals as goal
 
 pub loop-count-init : goal.loop-count-init
 loop-count-init g c = let run = c.args.run.now.text.now in let n = c.text_run-count.result in
-    let is : n ≡ prefix_len is_text_byte run = cc (c.text_run-count.ensures, c.as_bytes.ensures.value) in
+    let is : n ≡ prefix_len is_text_byte run = c.text_run-count.ensures ∙ ap (prefix_len is_text_byte) c.as_bytes.ensures.value in
     record {
       so = record { errors = []; handed = (refl, refl); front = front_text _ _ run _ (search rules) c.args.run.now.clean n is };
-      ends = λ l. cc (prefix_len_stops is_text_byte run 0 (rw (← is) l));
+      ends = λ l. rw is (prefix_len_stops is_text_byte run 0 (rw (← is) l));
     }
 
 pub loop-count-preserved : goal.loop-count-preserved
@@ -34,7 +34,7 @@ loop-count-preserved g c = let run = c.args.run.now.text.now in let table = c.ar
       };
       ends = λ l.
           let few : n < length rest = omega (arith, l, length_left (count + size) run bare.cut.within) in
-          cc (get_or-drop (count + size) run n 0, prefix_len_stops is_text_byte rest 0 (rw (← n_is) few));
+          ap is_text_byte (sym (get_or-drop (count + size) run n 0)) ∙ rw n_is (prefix_len_stops is_text_byte rest 0 (rw (← n_is) few));
     }
 
 pub returns-in_err-tell_bare-in-Text-clause-front : goal.returns-in_err-tell_bare-in-Text-clause-front

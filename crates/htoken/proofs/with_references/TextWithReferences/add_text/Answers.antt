@@ -16,4 +16,4 @@ returns-clause-adds c = λ table kind at.
 pub returns-clause-ends : goal.returns-clause-ends
 returns-clause-ends c = λ l.
     let is = c.text_run-count.ensures ∙ ap (prefix_len is_text_byte) c.as_bytes.ensures.value in
-    cc (prefix_len_stops is_text_byte c.args.run.now 0 (rw (← is) l))
+    rw is (prefix_len_stops is_text_byte c.args.run.now 0 (rw (← is) l))
