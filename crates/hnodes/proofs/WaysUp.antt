@@ -1,13 +1,12 @@
 -- From a node to its parent, and so on.
-use Rattle.hnodes.proofs.Names.{◌≡◌, ℕ, ◌<◌, List, [], ◌∷◌, Some, None, refl, sym, ◌∙◌, ap, arith, unwrap_or, ◌⊎◌, inl, inr, eq-eqb, What, Forest, none, tree, times, join, children_of, parent_of, AreCounted, path_above, ancestors_of, way_up, is_among, tree_at, eqb, ltb, ◌≤◌, false, ◌||◌, nat_tests}
+use Rattle.hnodes.proofs.Names.{◌≡◌, ℕ, ◌<◌, List, [], ◌∷◌, Some, None, refl, sym, ◌∙◌, ap, arith, unwrap_or, ◌⊎◌, inl, inr, eq-eqb, eqb-true, What, Forest, none, tree, times, join, children_of, parent_of, AreCounted, path_above, ancestors_of, way_up, is_among, tree_at, eqb, ltb, ◌≤◌, false, ◌||◌, nat_tests}
 use Rattle.hnodes.proofs.Forests.{times-join, tree_at-absent, either-none}
 use Rattle.hnodes.proofs.Inside.{tree_at-among}
 use Rattle.hnodes.proofs.Levels.{level, Here, Below}
 use Rattle.hnodes.proofs.Counted.{at-most, is-there}
 use Rattle.hnodes.proofs.Families.{left-apart}
 use Rattle.hnodes.proofs.ChildSpots.{child-spot, root-spot}
-use Rattle.hnodes.proofs.Forests.{join-none, children_of-absent}
-use Rattle.hnodes.proofs.Families.{children-among}
+use Rattle.hnodes.proofs.Families.{of_root, of_kids, of_rest, child}
 
 module _ {N : Type 0} where
   above-absent : (n : ℕ) (up : List ℕ) (f : Forest N) → times n f ≡ 0 → path_above n up f ≡ None
@@ -29,10 +28,14 @@ module _ {N : Type 0} where
     stacked : (up : List ℕ) (L k R f : Forest N) → times q f ≡ 1 → times n f ≡ 1 → children_of q f ≡ join L (tree n w k R)
         → unwrap_or (path_above n up f) [] ≡ q ∷ unwrap_or (path_above q up f) []
     stacked up L k R none one once is = absurd (omega arith)
-    stacked up L k R (tree b v kids rest) one once is = let i = ap (times n) is in let j = times-join n L (tree n w k R) in let c = children-among n q kids in
-        let d = children-among n q rest in let e = times-join n (children_of q kids) (children_of q rest) in
-        let g = above-row n w (b ∷ up) L k R in
-        grind (arith, stacked (b ∷ up) L k R kids, stacked up L k R rest, above-absent, g, either-none, join-none, children_of-absent)
+    stacked up L k R (tree b v kids rest) one once is = elim (child n q w L k R b v kids rest one once is) [
+      | of_root i j o y same z ↦ let apart = left-apart n q w L k R (ap (times n) (sym same) ∙ o) in
+          rw (i, j, same, above-row n w (b ∷ up) L k R apart) (ap (λ m. m ∷ up) (eqb-true b q i))
+      | of_kids i j o y a same z ↦
+          rw (i, j, above-absent n up rest y, above-absent q up rest z, either-none (path_above n (b ∷ up) kids), either-none (path_above q (b ∷ up) kids))
+          (stacked (b ∷ up) L k R kids a o same)
+      | of_rest i t j o y a same ↦ rw (i, j, above-absent q (b ∷ up) kids t, above-absent n (b ∷ up) kids o) (stacked up L k R rest a y same)
+    ]
 
   -- one step
   pub way-step : (made : ℕ) (f : Forest N) → AreCounted made f → (n : ℕ) → n < made → way_up (Some n) f ≡ n ∷ way_up (parent_of n f) f

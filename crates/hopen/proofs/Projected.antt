@@ -1,5 +1,5 @@
 -- What the items of a vector keep, by index.
-use Rattle.hopen.proofs.Names.{cases_eq, get_or-map as map-at, ◌≡◌, ℕ, zero, suc, ◌<◌, ◌≤◌, true, false, List, length, map, get_or, set, Option, Some, None, refl, sym, ◌∙◌, ap, arith, cases_lt, length-map, get_or_past, get_or-set_other, map-set, map-set_same, is_hole_kind, slot_names, open_name, slot_nodes, open_node, open_of, opened_by, same_name_of, IsHeldLevel, IsLinked, KeptNode, OpenNode, nat_tests, common_steps, ◌≢◌, cond, kept_kind, IsBelow, LastLevels, Open, Bool, [], ◌∷◌, ◌&&◌, not, filter, find, option_map, current, somes, true≢false, nearest_in, nearest_up, is_special, tag_of, NameSet, holds, ◌||◌, list_all, is_in_set, Tag}
+use Rattle.hopen.proofs.Names.{cases_eq, get_or-map as map-at, ◌≡◌, ℕ, zero, suc, ◌<◌, ◌≤◌, true, false, List, length, map, get_or, set, Option, Some, None, refl, sym, ◌∙◌, ap, subst, arith, cases_lt, length-map, get_or_past, get_or-set_other, map-set, map-set_same, is_hole_kind, slot_names, open_name, slot_nodes, open_node, open_of, opened_by, same_name_of, IsHeldLevel, IsLinked, KeptNode, OpenNode, nat_tests, common_steps, ◌≢◌, cond, kept_kind, IsBelow, LastLevels, Open, Bool, [], ◌∷◌, ◌&&◌, not, filter, find, option_map, current, somes, true≢false, nearest_in, nearest_up, is_special, tag_of, NameSet, holds, ◌||◌, list_all, is_in_set, Tag}
 use Rattle.std.proofs.Math.ListN.{get_or-map}
 use Rattle.hopen.proofs.Swapped.{walk-in}
 use Rattle.hopen.specs.declared.name_sets.NameSet.TheVariants as name_set
@@ -132,7 +132,7 @@ special_at : (t : Tag) → list_all (λ set. not (is_in_set set t) || is_special
 special_at t = grind arith
 
 pub special : (set : NameSet) (t : Tag) → is_in_set set t ≡ true → is_special t ≡ true
-special set t h = grind (arith, at_set, special_at)
+special set t h = subst (λ (v : Bool). (not v || is_special t) ≡ true) h (at_set (λ x. not (is_in_set x t) || is_special t) (special_at t) set)
 
 -- a name that is not special is in no set
 pub not-in : (set : NameSet) (n : ℕ) → is_special (tag_of n) ≡ false → holds set n ≡ false
