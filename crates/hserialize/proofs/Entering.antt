@@ -1,5 +1,5 @@
 -- What is around the children of an element, and around the element once it is left.
-use Rattle.hserialize.proofs.Names.{◌≡◌, Bool, true, false, not, cond, refl, sym, ◌∙◌, ap, subst, not-true, arith, ◌||◌, Tag, row, takes_role, texts_in, Inside, is_nested, inside_element, inserts_marker, in_region, without_form, content_among, is_phrasing, marked, Around, Content, is_button, is_a, content_within, Role}
+use Rattle.hserialize.proofs.Names.{◌≡◌, Bool, true, false, not, cond, refl, sym, ◌∙◌, ap, subst, not-true, false≢true, arith, ◌||◌, Tag, row, takes_role, texts_in, Inside, is_nested, inside_element, inserts_marker, in_region, without_form, content_among, is_phrasing, marked, Around, Content, is_button, is_a, content_within, Role}
 use Rattle.names.specs.declared.tag.Tag.TheVariants as tag
 use Rattle.hserialize.specs.declared.content.Content.TheVariants as content
 use Rattle.hserialize.specs.declared.content.Role.TheVariants as role
@@ -41,9 +41,6 @@ agrees true _ c = is_flow c
 agrees false role.Phrasing c = is_inline c
 agrees false _ c = has_own c
 
-differ : false ≡ true → ⊥
-differ h = cc
-
 rows_agree : (t : Tag) → agrees (inserts_marker t) (row t).0 (row t).1 ≡ true
 rows_agree tag.A = refl
 rows_agree _ = refl
@@ -63,7 +60,7 @@ in_phrasing content.Around h = record { own = refl; fit = refl; back = refl }
 in_phrasing _ h = record { own = cc; fit = cc; back = cc }
 
 in_other : (C c : Content) → has_own c ≡ true → IsInner C c false
-in_other C content.Around h = absurd (differ h)
+in_other C content.Around h = absurd (false≢true h)
 in_other C _ h = record { own = refl; fit = refl; back = refl }
 
 inner : (C : Content) (r : Role) (c : Content) (u : Bool) → agrees false r c ≡ true → takes_role C r ≡ true → fits C u ≡ true → IsInner C c u
@@ -75,12 +72,12 @@ inner content.TableParts role.TablePart c u a h f = subst (IsInner content.Table
 inner content.Columns role.Column c u a h f = subst (IsInner content.Columns c) (sym (not-true u f)) (in_other content.Columns c a)
 inner content.TableRows role.TableRow c u a h f = subst (IsInner content.TableRows c) (sym (not-true u f)) (in_other content.TableRows c a)
 inner content.Cells role.Cell c u a h f = subst (IsInner content.Cells c) (sym (not-true u f)) (in_other content.Cells c a)
-inner _ _ c u a h f = absurd (differ h)
+inner _ _ c u a h f = absurd (false≢true h)
 
 left_back : (m : Bool) (C : Content) (r : Role) (c : Content) (u : Bool) → agrees m r c ≡ true → takes_role C r ≡ true → fits C u ≡ true
     → cond (is_phrasing c) false (cond (is_phrasing c) true u) ≡ u
 left_back true C r content.Flow u a h f = refl
-left_back true C r _ u a h f = absurd (differ a)
+left_back true C r _ u a h f = absurd (false≢true a)
 left_back false C r c u a h f = (inner C r c u a h f).back
 
 -- a list in this content with these texts, wherever forms are
@@ -137,7 +134,7 @@ enters_region tag.Td inside h = refl
 enters_region tag.Th inside h = refl
 enters_region tag.Object inside h = refl
 enters_region tag.Marquee inside h = refl
-enters_region _ inside h = absurd (differ h)
+enters_region _ inside h = absurd (false≢true h)
 
 -- a node that is no element
 pub enter_other : (a : Around) → IsEntered tag.Other (place_in content.Empty texts.None a) a

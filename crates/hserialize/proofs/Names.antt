@@ -42,7 +42,7 @@ pub use Rattle.names.specs.declared.tag.Tag.{Tag}
 pub use Rattle.std.proofs.Common.{ap, ◌∙◌, ◌≡◌, ℕ, ◌++◌, sym, List, [], refl, ◌∷◌, subst, ◌<◌, length, arith, rules, Some, cond, Option, true, drop, false, ◌+◌, Bool, None, map, eqb, ◌≤◌, option_and_then, length-append, codes, suc, zero, Ok, take, ◌-◌, Err, get_or, inl, Result, drop-cons, add-one, ◌⊎◌, inr, not, nat_eq, decimal, vec_capacity, ◌^◌, ◌≢◌, ◌*◌, take-append-drop}
 pub use Rattle.std.proofs.KnownBytes.{Appends-trans, Appends-nil}
 pub use Rattle.std.proofs.Math.Seq.{drop-append_seam, take-append-add, take-append_seam}
-pub use Rattle.std.proofs.lemmas.Bool.{cond_both, eq-eqb, and_parts, not-true, or_right, false_from_ne_true, cases_lt, ne_eqb, eqb-true}
+pub use Rattle.std.proofs.lemmas.Bool.{false≢true, cond_both, eq-eqb, and_parts, not-true, or_right, false_from_ne_true, cases_lt, ne_eqb, eqb-true}
 pub use Rattle.std.proofs.lemmas.Bool.Decides.{Decides-eqb, nat_tests}
 pub use Rattle.std.proofs.lemmas.Grind.{flat_map-append, common_steps, elements}
 pub use Rattle.std.proofs.lemmas.List.{append_assoc, append-nil, take_rest, get_or_default, drop-drop, nil_from_length, get_or_past, length-take}
